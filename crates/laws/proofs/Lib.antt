@@ -1,0 +1,7 @@
+-- Laws that more than one crate cites, each stated once.
+--     Below    a rule of every number below a bound, from one computed test
+--     Table    a table that is a tabulated rule has the rule's value at each place
+--     Writes   runs of stores into lent room
+pub mod Below
+pub mod Table
+pub mod Writes

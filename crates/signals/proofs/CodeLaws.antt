@@ -1,0 +1,57 @@
+-- What holds of every byte, and of every signal: each by one test that antt computes over all of them. Assumes nothing.
+use mathlib.Core.Path.{_≡_, refl}
+use mathlib.Core.Bool.{Bool, true, false, _&&_, Bool·beq}
+use Prim.Native.Nat.{ℕ, zero, suc, _+_, _≤_, _<_}
+use lib.Dec.{T, eqb, leb, eqb→eq, leb→le}
+use lib.Count.{ones}
+use Rattle.laws.specs.Choice.{if_then_else_}
+use Rattle.laws.proofs.Below.{every, at-below, agree-below, both-left, both-right}
+use Rattle.signals.specs.Units.{onesOf, intactOf}
+use Rattle.signals.specs.Meaning.{meaningOf, wordNo}
+
+beq→eq : (a b : Bool) → T (Bool·beq a b) → a ≡ b
+beq→eq true true t = refl
+beq→eq true false t = absurd t
+beq→eq false true t = absurd t
+beq→eq false false t = refl
+
+-- The test of a byte: it is intact exactly where its meaning is not 0; its meaning is at most 35; and where it is
+-- intact, the signal with that number has it as its word.
+right : ℕ → Bool
+right w =
+    Bool·beq (intactOf w) (leb 1 (meaningOf w))
+    && (leb (meaningOf w) 35 && (if intactOf w then eqb (wordNo (meaningOf w)) w else true))
+
+module _ (w : ℕ) (byte : w < 256) where
+  passes : T (right w)
+  unfolding right intactOf onesOf meaningOf
+  passes = at-below right 256 tt w byte
+
+  -- "A word is intact .." exactly when it has a meaning  R-016
+  pub intact-means : intactOf w ≡ leb 1 (meaningOf w)
+  unfolding right
+  intact-means = beq→eq _ _ (both-left (Bool·beq (intactOf w) (leb 1 (meaningOf w))) _ passes)
+
+  pub meaning-le : meaningOf w ≤ 35
+  unfolding right
+  meaning-le = leb→le _ _ (both-left (leb (meaningOf w) 35) _ (both-right (Bool·beq (intactOf w) (leb 1 (meaningOf w))) _ passes))
+
+-- how many numbers below n pass the test
+abbrev countBelow : (ℕ → Bool) → ℕ → ℕ
+countBelow f zero = 0
+countBelow f (suc n) = (if f n then 1 else 0) + countBelow f n
+
+-- "There are 35 intact words and all have a meaning"  R-016: 35 of the 256 bytes are intact ..
+pub intact-count : countBelow intactOf 256 ≡ 35
+unfolding intactOf onesOf
+intact-count = refl
+
+-- .. and each number from 1 to 35 is the meaning of the word that its line spells
+pub number-means : (n : ℕ) → n < 35 → meaningOf (wordNo (suc n)) ≡ suc n
+unfolding meaningOf
+number-means n h = agree-below (λ n. meaningOf (wordNo (suc n))) (λ n. suc n) 35 tt n h
+
+-- below 128 the language's count of ones is the sum of the seven units  R-014
+pub ones-agree : (w : ℕ) → w < 128 → ones w ≡ onesOf w
+unfolding ones onesOf
+ones-agree w h = agree-below ones onesOf 128 tt w h

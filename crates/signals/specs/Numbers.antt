@@ -1,0 +1,25 @@
+-- 01, Numbers returned: a call answers, or it refuses by one of these numbers with a value beside it.
+--     1   encoding: a byte without a signal                              index of the first
+--     2   encoding, printing: lent room too short                        room needed
+--     3   a word that may not stand there: text offer (traffic, β),
+--         text for mode B (traffic), printing (traffic, 255)             index of the first
+--     4   a station or a receiver whose fields are out of range          0
+--     5   encoding: over 4,096 characters                                4,096
+--     6   mode B: slot past the last                                     number of slots
+--     7   over 8,192 signals for mode B or printing                      8,192
+-- Which of them a call can give, and in which order it looks for them, stands with the call's own definition.
+-- Assumes nothing.
+use mathlib.Core.Bool.{Bool}
+use mathlib.Core.List.{List, [], _∷_}
+use Prim.Native.Nat.{ℕ, zero, suc}
+use Rattle.laws.specs.Choice.{if_then_else_}
+
+-- what a call says: the answer, or the refusal's number and the value beside it
+pub data Answer (A : Type 0) : Type 0 where
+  answered : A → Answer A
+  refused : (number value : ℕ) → Answer A
+
+-- the index of the first entry that fails the test; the length where none does
+unfoldable pub firstNot : (ℕ → Bool) → List ℕ → ℕ
+firstNot may [] = 0
+firstNot may (x ∷ xs) = if may x then suc (firstNot may xs) else 0

@@ -1,0 +1,341 @@
+// The seven-unit code (01, The code; 001, tables 1 and 2): the meaning of a word, whether it is intact, and the 35 rows
+// that the encoder and the printer read.
+ghost use mathlib.Core.Path.{_≡_};
+ghost use Prim.Native.Nat.{_<_};
+ghost use Rattle.signals.specs.Units.{intactOf};
+ghost use Rattle.signals.specs.Meaning.{meaningOf};
+ghost use Rattle.signals.specs.Rows.{rowOf};
+
+// The case of a direction, or of a text (01, Text).
+pub enum Case {
+    Letters,
+    Figures,
+}
+
+// A signal's word, and the byte that it prints in letters case and in figures case; 0 where it prints none.
+pub struct Row(pub u8, pub u8, pub u8);
+
+// ORDER: a signal's number less one is its place.
+const ROWS: [Row; 35] = [
+    // word letter figure
+    Row(071, 65, 45), //  1  A  -
+    Row(114, 66, 63), //  2  B  ?
+    Row(029, 67, 58), //  3  C  :
+    Row(083, 68, 05), //  4  D  who are you
+    Row(086, 69, 51), //  5  E  3
+    Row(027, 70, 35), //  6  F
+    Row(053, 71, 35), //  7  G
+    Row(105, 72, 35), //  8  H
+    Row(077, 73, 56), //  9  I  8
+    Row(023, 74, 07), // 10  J  bell
+    Row(030, 75, 40), // 11  K  (
+    Row(101, 76, 41), // 12  L  )
+    Row(057, 77, 46), // 13  M  .
+    Row(089, 78, 44), // 14  N  ,
+    Row(113, 79, 57), // 15  O  9
+    Row(045, 80, 48), // 16  P  0
+    Row(046, 81, 49), // 17  Q  1
+    Row(085, 82, 52), // 18  R  4
+    Row(075, 83, 39), // 19  S  '
+    Row(116, 84, 53), // 20  T  5
+    Row(078, 85, 55), // 21  U  7
+    Row(060, 86, 61), // 22  V  =
+    Row(039, 87, 50), // 23  W  2
+    Row(058, 88, 47), // 24  X  /
+    Row(043, 89, 54), // 25  Y  6
+    Row(099, 90, 43), // 26  Z  +
+    Row(120, 13, 13), // 27  carriage return
+    Row(108, 10, 10), // 28  line feed
+    Row(090, 00, 00), // 29  letters
+    Row(054, 00, 00), // 30  figures
+    Row(092, 32, 32), // 31  space
+    Row(106, 00, 00), // 32  blank
+    Row(015, 00, 00), // 33  alpha
+    Row(051, 00, 00), // 34  beta
+    Row(102, 00, 00), // 35  RQ
+];
+
+// Every byte, from 0, and the number of the signal that it is; 0 where it is mutilated.
+const MEANING: [u8; 256] = [
+    0,
+    0,
+    0,
+    0,
+    0,
+    0,
+    0,
+    0,
+    0,
+    0,
+    0,
+    0,
+    0,
+    0,
+    0,
+    33, // 015 BBBBYYY alpha
+    0,
+    0,
+    0,
+    0,
+    0,
+    0,
+    0,
+    10, // 023 BBBYBYY J
+    0,
+    0,
+    0,
+    6, // 027 BBYBBYY F
+    0,
+    3, // 029 BYBBBYY C
+    11, // 030 YBBBBYY K
+    0,
+    0,
+    0,
+    0,
+    0,
+    0,
+    0,
+    0,
+    23, // 039 BBBYYBY W
+    0,
+    0,
+    0,
+    25, // 043 BBYBYBY Y
+    0,
+    16, // 045 BYBBYBY P
+    17, // 046 YBBBYBY Q
+    0,
+    0,
+    0,
+    0,
+    34, // 051 BBYYBBY beta
+    0,
+    7, // 053 BYBYBBY G
+    30, // 054 YBBYBBY figures
+    0,
+    0,
+    13, // 057 BYYBBBY M
+    24, // 058 YBYBBBY X
+    0,
+    22, // 060 YYBBBBY V
+    0,
+    0,
+    0,
+    0,
+    0,
+    0,
+    0,
+    0,
+    0,
+    0,
+    1, // 071 BBBYYYB A
+    0,
+    0,
+    0,
+    19, // 075 BBYBYYB S
+    0,
+    9, // 077 BYBBYYB I
+    21, // 078 YBBBYYB U
+    0,
+    0,
+    0,
+    0,
+    4, // 083 BBYYBYB D
+    0,
+    18, // 085 BYBYBYB R
+    5, // 086 YBBYBYB E
+    0,
+    0,
+    14, // 089 BYYBBYB N
+    29, // 090 YBYBBYB letters
+    0,
+    31, // 092 YYBBBYB space
+    0,
+    0,
+    0,
+    0,
+    0,
+    0,
+    26, // 099 BBYYYBB Z
+    0,
+    12, // 101 BYBYYBB L
+    35, // 102 YBBYYBB RQ
+    0,
+    0,
+    8, // 105 BYYBYBB H
+    32, // 106 YBYBYBB blank
+    0,
+    28, // 108 YYBBYBB line feed
+    0,
+    0,
+    0,
+    0,
+    15, // 113 BYYYBBB O
+    2, // 114 YBYYBBB B
+    0,
+    20, // 116 YYBYBBB T
+    0,
+    0,
+    0,
+    27, // 120 YYYBBBB carriage return
+    0,
+    0,
+    0,
+    0,
+    0,
+    0,
+    0,
+    0,
+    0,
+    0,
+    0,
+    0,
+    0,
+    0,
+    0,
+    0,
+    0,
+    0,
+    0,
+    0,
+    0,
+    0,
+    0,
+    0,
+    0,
+    0,
+    0,
+    0,
+    0,
+    0,
+    0,
+    0,
+    0,
+    0,
+    0,
+    0,
+    0,
+    0,
+    0,
+    0,
+    0,
+    0,
+    0,
+    0,
+    0,
+    0,
+    0,
+    0,
+    0,
+    0,
+    0,
+    0,
+    0,
+    0,
+    0,
+    0,
+    0,
+    0,
+    0,
+    0,
+    0,
+    0,
+    0,
+    0,
+    0,
+    0,
+    0,
+    0,
+    0,
+    0,
+    0,
+    0,
+    0,
+    0,
+    0,
+    0,
+    0,
+    0,
+    0,
+    0,
+    0,
+    0,
+    0,
+    0,
+    0,
+    0,
+    0,
+    0,
+    0,
+    0,
+    0,
+    0,
+    0,
+    0,
+    0,
+    0,
+    0,
+    0,
+    0,
+    0,
+    0,
+    0,
+    0,
+    0,
+    0,
+    0,
+    0,
+    0,
+    0,
+    0,
+    0,
+    0,
+    0,
+    0,
+    0,
+    0,
+    0,
+    0,
+    0,
+    0,
+    0,
+    0,
+    0,
+    0,
+    0,
+    0,
+    0,
+    0,
+    0,
+    0,
+    0,
+    0,
+    0,
+    0,
+    0,
+];
+
+// The number of the signal that a word means, 1 to 35, or 0 where it is mutilated (01, The code).
+pub fn meaning(word: u8) -> u8
+    ensures { λ r. ⌜ r ≡ meaningOf word ⌝ }
+{
+    MEANING[word as usize]
+}
+
+// Whether a heard word is intact: below 128, and with exactly four ones (01, The code; 001, 1.1).
+pub fn intact(word: u8) -> bool
+    ensures { λ r. ⌜ r ≡ intactOf word ⌝ }
+{
+    if 128 <= word {
+        return false;
+    }
+    u8::count_ones(word) == 4
+}
+
+// The row of the signal with the number `at` + 1.
+pub fn row_at(at: usize) -> Row
+    requires { ⌜ at < 35 ⌝ }
+    ensures { λ r. ⌜ r ≡ rowOf at ⌝ }
+{
+    ROWS[at]
+}

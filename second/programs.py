@@ -1,0 +1,307 @@
+"""The programs: what goes in and what comes out (docs/FORMATS.md).
+
+Each is a function from all of standard input to what it writes on standard
+output and on standard error.  PROGRAMS at the end names them.
+"""
+
+import broadcast
+import station as mode_a
+import text
+from refusal import Refused
+from signals import ALPHA, BETA, CS1, CS2, CS3, RQ
+
+WHITE_SPACE = (32, 9, 13, 10)
+WORDS_ON_A_LINE = 16
+
+
+# --- Words: decimal numbers 0 to 255 ---
+
+class NotANumber(Exception):
+    """Carries the place of the faulty run's first byte."""
+
+    def __init__(self, place):
+        Exception.__init__(self, place)
+        self.place = place
+
+
+def read_words(data, most=None):
+    """Yields the numbers of the input, at most `most` of them: what stands
+    behind the last one is not looked at.  A number is a run of bytes up to
+    white space or the end; the run is judged whole, so "12x" is one fault.
+    Leading zeros are allowed and the length is not bounded."""
+    place = 0
+    found = 0
+    while most is None or found < most:
+        while place < len(data) and data[place] in WHITE_SPACE:
+            place = place + 1
+        if place == len(data):
+            return
+        first = place
+        value = 0
+        good = True
+        while place < len(data) and data[place] not in WHITE_SPACE:
+            byte = data[place]
+            if 48 <= byte <= 57:
+                # 256 stands for every value over 255.
+                value = min(value * 10 + byte - 48, 256)
+            else:
+                good = False
+            place = place + 1
+        if not good or value > 255:
+            raise NotANumber(first)
+        found = found + 1
+        yield value
+
+
+def write_words(words):
+    """Sixteen to a line, one space between, each line ended by a line feed."""
+    lines = []
+    for start in range(0, len(words), WORDS_ON_A_LINE):
+        line = words[start:start + WORDS_ON_A_LINE]
+        lines.append(" ".join(str(word) for word in line) + "\n")
+    return "".join(lines).encode("ascii")
+
+
+def error_line(*fields):
+    return (" ".join(str(field) for field in fields) + "\n").encode("ascii")
+
+
+def refused_line(refusal):
+    return error_line("refused", refusal.number, refusal.beside)
+
+
+def not_a_number_line(fault):
+    return error_line("not a number at", fault.place)
+
+
+# --- hear (paper 01, worked examples) ---
+
+NAMES = {CS1: "CS1", CS2: "CS2", CS3: "CS3", RQ: "RQ", ALPHA: "alpha",
+         BETA: "beta"}
+
+
+def name_of_burst(burst):
+    """01: "words sent, by name, joined by dots (`alpha`, `beta`; `silent` for
+    silence)".  The two zero words behind a single signal are not shown."""
+    if burst == mode_a.SILENCE:
+        return "silent"
+    return ".".join(NAMES[word] for word in burst if word != 0)
+
+
+def hear(data):
+    lines = ["step answer printed\n"]
+    slave = mode_a.fresh_slave()
+    case = "letters"
+    for start in range(0, len(data), 3):
+        burst = data[start:start + 3]
+        # 01: "a short last burst filled with zeros"
+        burst = tuple(burst) + (0,) * (3 - len(burst))
+        answer = mode_a.step(slave, burst, mode_a.NOTHING)
+        slave = answer.station
+        # The printing case runs through all steps.
+        room = bytearray(3)
+        written = text.print_signals(case, answer.printed, room)
+        case = written.case
+        # "none" where no byte was printed, also after shifts alone.
+        printed = room[:written.length].hex().upper() or "none"
+        lines.append("%d %s %s\n" % (start // 3 + 1,
+                                     name_of_burst(answer.burst), printed))
+    return "".join(lines).encode("ascii"), b""
+
+
+# --- encode, print, send: one call each ---
+
+def encode(data):
+    characters = data[:text.MOST_CHARACTERS + 1]
+    room = bytearray(text.MOST_SIGNALS)
+    answer = text.encode("letters", characters, room)
+    if isinstance(answer, Refused):
+        return b"", refused_line(answer)
+    return write_words(room[:answer.length]), b""
+
+
+def print_(data):
+    try:
+        signals = list(read_words(data, text.MOST_SIGNALS + 1))
+    except NotANumber as fault:
+        return b"", not_a_number_line(fault)
+    room = bytearray(text.MOST_SIGNALS)
+    answer = text.print_signals("letters", signals, room)
+    if isinstance(answer, Refused):
+        return b"", refused_line(answer)
+    return bytes(room[:answer.length]), b""
+
+
+def send(data):
+    try:
+        signals = list(read_words(data, broadcast.MOST_SIGNALS + 1))
+    except NotANumber as fault:
+        return b"", not_a_number_line(fault)
+    refusal = broadcast.text_refusal(signals)
+    if refusal is not None:
+        return b"", refused_line(refusal)
+    return write_words(broadcast.slots(signals)), b""
+
+
+# --- receive: a stream ---
+
+def receive(data):
+    printed = []
+    error = b""
+    receiver = broadcast.fresh_receiver()
+    try:
+        for word in read_words(data):
+            receiver, signal = broadcast.hear_word(receiver, word)
+            if signal is not None:
+                printed.append(signal)
+    except NotANumber as fault:
+        # What was printed before it stays, the line begun is ended.
+        error = not_a_number_line(fault)
+    return write_words(printed), error
+
+
+# --- steps: records of 17 bytes, one step of a station written out ---
+
+RECORD = 17
+PLACES = (mode_a.SENDING, mode_a.TURNING, mode_a.OPENING, mode_a.ENDING,
+          mode_a.RECEIVING, mode_a.ASKING, mode_a.STANDBY, mode_a.LOST)
+NUMBERED = (mode_a.SENDING, mode_a.TURNING, mode_a.ENDING, mode_a.RECEIVING)
+OFFERS = ("nothing", "text", "over", "end")
+
+
+def case_of(byte):
+    return "letters" if byte % 2 == 0 else "figures"
+
+
+def read_step(record):
+    """The station, burst and offer of a record.  A field that a place does not
+    carry is ignored."""
+    place = PLACES[record[1] % 8]
+    number = 0
+    held = mode_a.NO_BLOCK
+    total = 0
+    if place in NUMBERED:
+        number = 1 if record[2] % 2 == 1 else 2
+    if place == mode_a.SENDING:
+        held = tuple(record[3:6])
+    if place == mode_a.ENDING:
+        total = record[6]
+    station = mode_a.Station(
+        master=record[0] % 2 == 0, place=place, number=number, held=held,
+        total=total, count=record[7], case=case_of(record[8]),
+        plus=record[9] % 2 == 1)
+    burst = tuple(record[10:13])
+    offer = mode_a.Offer(OFFERS[record[13] % 4], tuple(record[14:17]))
+    return station, burst, offer
+
+
+def step_line(answer):
+    if isinstance(answer, Refused):
+        return "refused %d %d\n" % (answer.number, answer.beside)
+    s = answer.station
+    printed = answer.printed + (0,) * (3 - len(answer.printed))
+    return ("%s %d %d %d %d %d %d %s %d | %d %d %d | %d %d %d | %d\n" % (
+        (s.place, s.number) + s.held + (s.total, s.count, s.case, s.plus)
+        + answer.burst + printed + (answer.taken,)))
+
+
+def steps(data):
+    lines = []
+    # A short last record is ignored.
+    for start in range(0, len(data) - RECORD + 1, RECORD):
+        station, burst, offer = read_step(data[start:start + RECORD])
+        lines.append(step_line(mode_a.step(station, burst, offer)))
+    return "".join(lines).encode("ascii"), b""
+
+
+# --- calls: one public call a record ---
+
+FILLED_WITH = 170
+MOST_ROOM = 8192
+MOST_LENGTH = 8193
+
+
+class BadRecord(Exception):
+    """Another kind, a room or length over the most, or a record cut short."""
+
+
+def cut(data, place, length):
+    if place + length > len(data):
+        raise BadRecord()
+    return data[place:place + length]
+
+
+def low_first(field):
+    """The number in bytes with the low byte first."""
+    return int.from_bytes(field, "little")
+
+
+def text_call(call, data, place):
+    """An `E` or `P` record from its second byte on: its line and the place
+    behind it."""
+    head = cut(data, place, 5)
+    case = case_of(head[0])
+    room_length = low_first(head[1:3])
+    length = low_first(head[3:5])
+    if room_length > MOST_ROOM or length > MOST_LENGTH:
+        raise BadRecord()
+    body = cut(data, place + 5, length)
+    room = bytearray([FILLED_WITH]) * room_length
+    answer = call(case, body, room)
+    shown = room.hex().upper() or "-"
+    if isinstance(answer, Refused):
+        line = "refused %d %d %s\n" % (answer.number, answer.beside, shown)
+    else:
+        line = "ok %d %s %s\n" % (answer.length, answer.case, shown)
+    return line, place + 5 + length
+
+
+def slot_call(data, place):
+    """An `S` record, likewise."""
+    head = cut(data, place, 6)
+    number = low_first(head[0:4])
+    length = low_first(head[4:6])
+    if length > MOST_LENGTH:
+        raise BadRecord()
+    body = cut(data, place + 6, length)
+    answer = broadcast.slot(body, number)
+    if isinstance(answer, Refused):
+        line = "refused %d %d\n" % (answer.number, answer.beside)
+    else:
+        line = "ok %d\n" % answer
+    return line, place + 6 + length
+
+
+def calls(data):
+    lines = []
+    error = b""
+    place = 0
+    try:
+        while place < len(data):
+            kind = data[place:place + 1]
+            if kind == b"E":
+                line, behind = text_call(text.encode, data, place + 1)
+            elif kind == b"P":
+                line, behind = text_call(text.print_signals, data, place + 1)
+            elif kind == b"S":
+                line, behind = slot_call(data, place + 1)
+            else:
+                raise BadRecord()
+            lines.append(line)
+            place = behind
+    except BadRecord:
+        # The lines before it stay.  The place is that of the record's first
+        # byte, whatever is wrong with it.
+        error = error_line("bad record at", place)
+    return "".join(lines).encode("ascii"), error
+
+
+PROGRAMS = {
+    "hear": hear,
+    "encode": encode,
+    "print": print_,
+    "send": send,
+    "receive": receive,
+    "steps": steps,
+    "calls": calls,
+}

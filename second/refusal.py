@@ -1,0 +1,17 @@
+"""Refusals by number (paper 01, "Numbers returned")."""
+
+from collections import namedtuple
+
+# number: 1 to 7 of 01's table.  beside: 01's "Answer beside it".
+#
+#   1  encoding: a byte without a signal                 index of the first
+#   2  encoding, printing: lent room too short           room needed
+#   3  a word that may not stand there                   index of the first
+#   4  a station or receiver that cannot be              0
+#   5  encoding: over 4,096 characters                   4,096
+#   6  mode B: slot past the last                        number of slots
+#   7  over 8,192 signals for mode B or printing         8,192
+#
+# Each call tests for them in 01's order: "encoding 5, 1, 2; printing 7, 3, 2;
+# mode A step 4, 3; mode B slot 7, 3, 6".
+Refused = namedtuple("Refused", "number beside")
