@@ -12,6 +12,11 @@ pub enum Case {
     Figures,
 }
 
+// The shifts (01, The code, Nos 29 and 30).
+pub const LETTERS: u8 = 90;
+
+pub const FIGURES: u8 = 54;
+
 // A signal's word, and the byte that it prints in letters case and in figures case; 0 where it prints none.
 pub struct Row(pub u8, pub u8, pub u8);
 

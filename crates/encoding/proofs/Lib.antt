@@ -1,0 +1,3 @@
+mod CharacterLaws
+mod SurveyLaws
+mod WriteLaws

@@ -1,0 +1,19 @@
+-- The code's table of characters: the number of the signal that has a byte as its letter, figure or character.
+-- Assumes nothing.
+use mathlib.Core.Bool.{_||_}
+use mathlib.Core.List.{List, [], _∷_}
+use Prim.Native.Nat.{ℕ, suc}
+use lib.Dec.{eqb}
+use Rattle.laws.specs.Choice.{if_then_else_}
+use Rattle.signals.specs.Signals.{Signal, pair, lone, free, mute, signals}
+
+-- counted from n; 0 where no signal has it
+abbrev pub holderIn : List Signal → ℕ → ℕ → ℕ
+holderIn [] n x = 0
+holderIn (pair w l f ∷ ss) n x = if eqb x l || eqb x f then n else holderIn ss (suc n) x
+holderIn (lone w l ∷ ss) n x = if eqb x l then n else holderIn ss (suc n) x
+holderIn (free w c ∷ ss) n x = if eqb x c then n else holderIn ss (suc n) x
+holderIn (mute w ∷ ss) n x = holderIn ss (suc n) x
+
+unfoldable pub holderOf : ℕ → ℕ
+holderOf x = holderIn signals 1 x

@@ -1,0 +1,886 @@
+"""Inputs for second/compare: valid, damaged and hostile, long and short.
+
+cases(NAME, seed, slots) gives the same list each time it is asked.
+"""
+
+import random
+from collections import namedtuple
+
+import broadcast
+import programs
+import station as mode_a
+import text
+from refusal import Refused
+from signals import (ALPHA, BETA, CARRIAGE_RETURN, CS1, CS2, CS3, FIGURES,
+                     LETTERS, LINE_FEED, MEANING, PLUS, QUERY, RQ, is_traffic)
+from station import (ASKING, OPENING, RECEIVING, SENDING, TURNING, LOST,
+                     STANDBY)
+
+# about: what the input tries, for the report of a difference.
+# slowly: written to the program a byte at a time, so that it meets short reads.
+Case = namedtuple("Case", "about data slowly")
+
+WORDS = list(range(256))
+INTACT = [word for word in WORDS if MEANING[word] != 0]
+MUTILATED = [word for word in WORDS if MEANING[word] == 0]
+TRAFFIC = [word for word in WORDS if is_traffic(word)]
+IN_BLOCK = TRAFFIC + [BETA]
+NOT_IN_BLOCK = [word for word in WORDS if word not in IN_BLOCK]
+CHARACTERS = sorted(text.SIGNAL_OF)
+NO_CHARACTERS = [byte for byte in WORDS if byte not in text.SIGNAL_OF]
+
+# Words that a rule names, and one mutilated word of each sort.
+NAMED = [CS1, CS2, CS3, RQ, ALPHA, BETA, FIGURES, LETTERS, PLUS, QUERY,
+         CARRIAGE_RETURN, LINE_FEED, 0, 127, 128 + ALPHA, 255]
+
+
+def cases(name, seed, slots):
+    """The inputs of one program.  slots: whether `calls` may get S records."""
+    draw = random.Random("%s %d" % (name, seed))
+    if name == "calls":
+        return calls_cases(draw, slots)
+    return MAKERS[name](draw)
+
+
+def slowly(about, data):
+    return Case(about + ", a byte at a time", data, True)
+
+
+def quickly(about, data):
+    return Case(about, bytes(data), False)
+
+
+# --- Texts ---
+
+def letter(draw, length):
+    """A text an operator might write."""
+    out = []
+    while len(out) < length:
+        kind = draw.random()
+        if kind < 0.7:
+            out.extend(draw.choice(b"ABCDEFGHIJKLMNOPQRSTUVWXYZ")
+                       for _ in range(draw.randint(1, 8)))
+            out.append(32)
+        elif kind < 0.85:
+            out.extend(draw.choice(b"0123456789")
+                       for _ in range(draw.randint(1, 5)))
+            out.append(32)
+        elif kind < 0.95:
+            out.append(draw.choice(b"-?:()., '=/+\x05\x07"))
+        else:
+            out.extend(b"\r\n")
+    return bytes(out[:length])
+
+
+def characters(draw, length):
+    """Any characters that have signals."""
+    return bytes(draw.choices(CHARACTERS, k=length))
+
+
+def with_byte(data, index, byte):
+    return data[:index] + bytes([byte]) + data[index + 1:]
+
+
+# --- Numbers written in various ways ---
+
+def plain(words):
+    return programs.write_words(list(words))
+
+
+def written(draw, words):
+    """The words as numbers, in one of several ways that mean the same."""
+    way = draw.randrange(5)
+    if way == 0:
+        return plain(words)
+    if way == 1:
+        return b" ".join(b"%d" % word for word in words)
+    if way == 2:
+        return b"".join(b"%d\r\n" % word for word in words)
+    out = [draw.choice((b"", b" ", b"\n\n", b"\t"))]
+    for word in words:
+        zeros = draw.choice((0, 0, 0, 1, 2, 7)) if way == 4 else 0
+        out.append(b"0" * zeros + b"%d" % word)
+        out.append(bytes(draw.choices((32, 9, 13, 10), k=draw.choice((1, 1, 2, 5)))))
+    return b"".join(out)
+
+
+# Runs that are no number.  Among them values that come out small when cut to
+# 8, 16, 32 or 64 bits.
+FAULTY_RUNS = [
+    b"256", b"260", b"300", b"999", b"1000", b"00256", b"65536", b"65607",
+    b"4294967296", b"4294967367", b"18446744073709551616",
+    b"18446744073709551687", b"99999999999999999999999999", b"-1", b"+1",
+    b"1.0", b"0x47", b"71,", b",71", b"7a", b"a7", b"x", b"\x00", b"71\x00",
+    b"\xff", b"\x0b", b"71\x0c72", b"\xd9\xa7", b"/", b":", b"7/", b"7:",
+    b"256x", b"x256",
+]
+
+
+def with_run(draw, words, index, run):
+    """The words as numbers with a run put in before the one at `index`."""
+    runs = [b"%d" % word for word in words]
+    runs.insert(index, run)
+    return draw.choice((b" ", b"\n", b"\r\n", b" \t")).join(runs)
+
+
+# --- encode ---
+
+def encode_cases(draw):
+    out = [quickly("empty", b""),
+           quickly("A1", b"A1"),
+           quickly("1 2", b"1 2"),
+           quickly("all characters", bytes(CHARACTERS)),
+           quickly("characters and a small letter", b"AB1a"),
+           slowly("a letter", letter(draw, 120)),
+           slowly("a refused letter", letter(draw, 60) + b"#" + letter(draw, 60))]
+    for length in (1, 15, 16, 17, 31, 32, 33, 4095, 4096):
+        out.append(quickly("letter of %d" % length, letter(draw, length)))
+        out.append(quickly("characters, %d" % length, characters(draw, length)))
+    out.append(quickly("most shifts", b"1A" * 2048))
+    for length in (4097, 4098, 8192, 8193, 70000):
+        out.append(quickly("over the limit, %d" % length, characters(draw, length)))
+    for index in (0, 1, 4094, 4095):
+        bad = with_byte(characters(draw, 4096), index, draw.choice(NO_CHARACTERS))
+        out.append(quickly("4,096 with a bad byte at %d" % index, bad))
+        out.append(quickly("the same, one longer", bad + b"A"))
+    out.append(quickly("bad byte beyond the limit",
+                       characters(draw, 4096) + b"a" + characters(draw, 100)))
+    while len(out) < 150:
+        length = draw.choice((draw.randrange(40), draw.randrange(400),
+                              draw.randrange(4097)))
+        kind = draw.randrange(5)
+        if kind == 0:
+            data = letter(draw, length)
+        elif kind == 1:
+            data = characters(draw, length)
+        elif kind == 2 and length > 0:
+            data = with_byte(characters(draw, length), draw.randrange(length),
+                             draw.choice(NO_CHARACTERS))
+        elif kind == 3:
+            data = bytes(draw.choices(WORDS, k=length))
+        else:
+            data = bytes(draw.choices(b"A1 \r\n", k=length))
+        out.append(quickly("text of %d" % length, data))
+    return out
+
+
+# --- print ---
+
+PRINTABLE = TRAFFIC + [255]
+NOT_PRINTABLE = [word for word in WORDS if word not in PRINTABLE]
+
+
+def signals(draw, length):
+    """Signals that may be printed, shifts and error marks well among them."""
+    more = [FIGURES, LETTERS, FIGURES, LETTERS, 255]
+    return draw.choices(PRINTABLE + more, k=length)
+
+
+def limit_cases(draw, make):
+    """For print and send: around the most signals, and faults around it."""
+    out = []
+    for length in (8191, 8192, 8193, 8194, 9000):
+        out.append(quickly("%d signals" % length, written(draw, make(length))))
+    words = make(8192)
+    out.append(quickly("first bad word at the limit", plain(words + [0])))
+    out.append(quickly("bad word, one too many", plain([0] + words)))
+    for index in (0, 8191, 8192, 8193, 8194):
+        out.append(quickly("fault before number %d of 9,000" % index,
+                           with_run(draw, make(9000), index, b"256")))
+        out.append(quickly("fault of a byte, likewise at %d" % index,
+                           with_run(draw, make(9000), index, b"71x")))
+    out.append(quickly("8,193 and a fault that touches the last",
+                       plain(words).rstrip() + b" 71!"))
+    out.append(quickly("8,193, white space, a fault",
+                       plain(words) + b"71" + b" " * 5000 + b"!"))
+    return out
+
+
+def fault_cases(draw, make):
+    """Faulty runs first, last, between, after a refusable word."""
+    out = []
+    for run in FAULTY_RUNS:
+        length = draw.choice((0, 1, 3, 20, 200))
+        words = make(length)
+        index = draw.choice((0, length, draw.randint(0, length)))
+        out.append(quickly("run %r" % run, with_run(draw, words, index, run)))
+    out.append(quickly("bad word before a fault", b"0 71 999"))
+    out.append(quickly("fault before a bad word", b"71 999 0"))
+    out.append(quickly("two faults", b"71  1x 999"))
+    out.append(quickly("70,000 zeros and 71", b"0" * 70000 + b"71"))
+    out.append(quickly("70,000 zeros and 256", b"71 " + b"0" * 70000 + b"256"))
+    out.append(quickly("70,000 digits", b" " + b"7" * 70000))
+    out.append(quickly("70,000 spaces and 71", b" " * 70000 + b"71"))
+    out.append(quickly("70,000 spaces and a fault", b"71" + b" " * 70000 + b"_"))
+    return out
+
+
+def print_cases(draw):
+    def make(length):
+        return signals(draw, length)
+
+    out = [quickly("empty", b""), quickly("white space", b" \n\t\r "),
+           quickly("all traffic in letters", plain(TRAFFIC)),
+           quickly("all traffic in figures", plain([FIGURES] + TRAFFIC[:28])),
+           quickly("all intact", plain(INTACT)),
+           slowly("signals", written(draw, make(40))),
+           slowly("signals and a fault", plain(make(30)) + b"71 7x 71")]
+    out.extend(fault_cases(draw, make))
+    out.extend(limit_cases(draw, make))
+    while len(out) < 150:
+        length = draw.choice((draw.randrange(20), draw.randrange(300),
+                              draw.randrange(3000)))
+        words = make(length)
+        kind = draw.randrange(4)
+        if kind == 0 and length > 0:
+            words[draw.randrange(length)] = draw.choice(NOT_PRINTABLE)
+        elif kind == 1:
+            words = draw.choices(WORDS, k=length)
+        out.append(quickly("%d signals" % length, written(draw, words)))
+    return out
+
+
+# --- send ---
+
+# The breaks that `send` itself is tried at, on both sides of each.  Where a
+# proved program reads the whole text for each slot, all slots of a long text
+# cost the square of its length; `calls` tries single slots at all 85 breaks.
+SEND_BREAKS = list(range(1, 11)) + list(range(15, 86, 5))
+ALL_BREAKS = list(range(1, 86))
+
+
+def sides(number):
+    """The text lengths on both sides of a break: after 96 x number traffic
+    positions, two of them return and line feed."""
+    return 96 * number - 2, 96 * number - 1
+
+
+def send_cases(draw):
+    def make(length):
+        return draw.choices(TRAFFIC, k=length)
+
+    out = [quickly("empty", b""), quickly("white space", b"\n \r\t"),
+           quickly("E", b"86"), quickly("all traffic", plain(TRAFFIC)),
+           slowly("text", written(draw, make(30))),
+           slowly("text and a fault", plain(make(20)) + b"71 256 71")]
+    lengths = [1, 2, 93, 96, 97, 189, 192, 193]
+    for number in SEND_BREAKS:
+        lengths.extend(sides(number))
+    for length in lengths:
+        out.append(quickly("%d signals" % length, written(draw, make(length))))
+    for word in (255, BETA, ALPHA, RQ, 0, 128):
+        out.append(quickly("word %d in it" % word, plain(make(5) + [word, word])))
+    out.append(quickly("8,190 signals", plain(make(8190))))
+    out.extend(fault_cases(draw, make))
+    out.extend(limit_cases(draw, make))
+    while len(out) < 200:
+        length = draw.choice((draw.randrange(10), draw.randrange(100),
+                              draw.randrange(400)))
+        words = make(length)
+        if length > 0 and draw.random() < 0.3:
+            words[draw.randrange(length)] = draw.choice(
+                [word for word in WORDS if word not in TRAFFIC])
+        out.append(quickly("%d signals" % length, written(draw, words)))
+    return out
+
+
+# --- receive ---
+
+LEAST_RECEIVE_WORDS = 100000
+
+
+def bulletin(draw, length):
+    """A text for mode B.  Returns and line feeds let a receiver that joined
+    late begin to print."""
+    words = draw.choices(TRAFFIC + [CARRIAGE_RETURN, LINE_FEED], k=length)
+    return broadcast.slots(words)
+
+
+def damaged(draw, words, chance, others):
+    """Words replaced, each with the same chance, by one of `others`."""
+    return [draw.choice(others) if draw.random() < chance else word
+            for word in words]
+
+
+def heard_in_mode_b(draw, kind):
+    """One input's words, of about 2,000."""
+    words = []
+    size = draw.choice((300, 1000, 2000, 3000))
+    while len(words) < size:
+        sent = bulletin(draw, draw.choice((0, 1, 2, 30, 94, 95, 190, 300, 600)))
+        if kind == "clean":
+            words += sent
+        elif kind == "damaged":
+            words += damaged(draw, sent, draw.choice((0.02, 0.1, 0.3)), MUTILATED)
+        elif kind == "other signals":
+            words += damaged(draw, sent, draw.choice((0.02, 0.1)), INTACT)
+        elif kind == "joined late":
+            words += sent[draw.randrange(len(sent)):]
+        elif kind == "cut short":
+            words += sent[:draw.randrange(len(sent))]
+        elif kind == "slots slip":
+            at = draw.randrange(len(sent))
+            words += sent[:at] + draw.choice(([], [0], [ALPHA])) + sent[at + 1:]
+        elif kind == "noise between":
+            words += sent + draw.choices(WORDS, k=draw.randrange(40))
+        elif kind == "intact noise":
+            words += draw.choices(INTACT, k=50)
+        elif kind == "noise":
+            words += draw.choices(WORDS, k=100)
+        elif kind == "phasing noise":
+            words += draw.choices(
+                [ALPHA, RQ] * 3 + [LINE_FEED, CARRIAGE_RETURN, BETA, 0, 71], k=50)
+        else:
+            # A lock, and then pairs of words that settle each way.
+            words += draw.choice(([RQ, ALPHA], [ALPHA, RQ])) * 2
+            few = draw.sample(IN_BLOCK, 2) + [LINE_FEED, ALPHA, RQ, BETA, 0, 255]
+            words += draw.choices(few, k=draw.randrange(60))
+    return words
+
+
+RECEIVE_KINDS = ("clean", "damaged", "other signals", "joined late", "cut short",
+                 "slots slip", "noise between", "intact noise", "noise",
+                 "phasing noise", "settling")
+
+
+def receive_cases(draw):
+    text_of_one = broadcast.slots([86])
+    out = [quickly("empty", b""), quickly("white space", b" \r\n"),
+           quickly("text E", plain(text_of_one)),
+           quickly("no text", plain(broadcast.slots([]))),
+           slowly("text E", plain(text_of_one))]
+    # Every slot of a short bulletin damaged, and listened to from.
+    for place in range(len(text_of_one)):
+        spoilt = list(text_of_one)
+        spoilt[place] = draw.choice(MUTILATED)
+        out.append(quickly("slot %d damaged" % place,
+                           plain(spoilt + text_of_one[place:])))
+    total = 0
+    while total < LEAST_RECEIVE_WORDS:
+        for kind in RECEIVE_KINDS:
+            words = heard_in_mode_b(draw, kind)
+            total += len(words)
+            out.append(quickly(kind, written(draw, words)))
+    for case in fault_cases(draw, lambda length: bulletin(draw, 20)[:length]):
+        out.append(case)
+    for run in (b"256", b"x", b"12x", b"99999999999999999999"):
+        # Printing has begun; the line begun has 1 to 16 words.
+        words = broadcast.slots(draw.choices(TRAFFIC, k=60))
+        for place in (42, 44, draw.randrange(40, 160)):
+            out.append(quickly("fault %r after %d words" % (run, place),
+                               with_run(draw, words, place, run)))
+    return out
+
+
+# --- hear ---
+
+LEAST_HEAR_BURSTS = 100000
+
+
+def single(word):
+    return (word, 0, 0)
+
+
+def block(draw):
+    """A block a slave accepts, with shifts, + and ? well among its signals."""
+    return tuple(draw.choices(IN_BLOCK + [BETA] * 6 + [FIGURES, PLUS, PLUS,
+                                                       QUERY, QUERY, LETTERS],
+                              k=3))
+
+
+def any_burst(draw):
+    """A burst of any kind, whatever the place."""
+    kind = draw.randrange(13)
+    if kind == 0:
+        return block(draw)
+    if kind == 1:
+        broken = list(block(draw))
+        broken[draw.randrange(3)] = draw.choice(MUTILATED)
+        return tuple(broken)
+    if kind == 2:
+        return tuple(draw.choices(WORDS, k=3))
+    if kind == 3:
+        return tuple(draw.choices(INTACT, k=3))
+    if kind == 4:
+        return (RQ, RQ, RQ)
+    if kind == 5:
+        return (RQ,) + tuple(draw.choices((0, RQ, ALPHA, 71, 255), k=2))
+    if kind == 6:
+        return (BETA, ALPHA, BETA)
+    if kind == 7:
+        return tuple(draw.choices((ALPHA, BETA, RQ), k=3))
+    if kind == 8:
+        return single(draw.choice((CS1, CS2, CS3)))
+    if kind == 9:
+        return (draw.choice((CS1, CS2, CS3)),) + tuple(draw.choices(WORDS, k=2))
+    if kind == 10:
+        return tuple(draw.choices(NAMED, k=3))
+    if kind == 11:
+        return (0, 0, 0)
+    broken = list(block(draw))
+    broken[draw.randrange(3)] = draw.choice((ALPHA, RQ))
+    return tuple(broken)
+
+
+def helpful_burst(draw, slave):
+    """A burst that leads the slave on from where it is."""
+    if slave.place == RECEIVING:
+        return block(draw)
+    if slave.place == ASKING:
+        return (BETA, ALPHA, BETA)
+    if slave.place == OPENING:
+        return single(draw.choice((CS1, CS2)))
+    if slave.place == SENDING:
+        other = CS2 if slave.number == 1 else CS1
+        return single(draw.choice((other, other, CS3)))
+    if slave.place == TURNING:
+        return (RQ,) + draw.choice(((0, 0), (RQ, RQ)))
+    return any_burst(draw)
+
+
+def led_circuit(draw, most):
+    """Bursts for a slave that is led through many turns: each burst is chosen
+    by the place the slave has reached, and helps it on often enough that it
+    is seldom lost and seldom at Stand-by before the end."""
+    slave = mode_a.fresh_slave()
+    bursts = []
+    silent_for = 0
+    while len(bursts) < most and silent_for < 8:
+        near_end = len(bursts) > most - 60
+        if draw.random() < 0.45 or (slave.count > 20 and not near_end):
+            burst = helpful_burst(draw, slave)
+        else:
+            burst = any_burst(draw)
+        leaves = (burst == (ALPHA, ALPHA, ALPHA) and slave.place == RECEIVING
+                  or burst[0] == CS3 and slave.place == OPENING)
+        if leaves and not near_end and draw.random() < 0.95:
+            continue
+        slave = mode_a.step(slave, burst, mode_a.NOTHING).station
+        bursts.append(burst)
+        if slave.place in (STANDBY, LOST):
+            silent_for += 1
+    return bursts
+
+
+def model_circuit(draw, most, chance):
+    """Bursts as a real master sends them, with damage both ways."""
+    master, slave = mode_a.fresh_master(), mode_a.fresh_slave()
+    heard = single(CS1)
+    bursts = []
+
+    def spoil(burst):
+        return tuple(damaged(draw, burst, chance, MUTILATED))
+
+    while len(bursts) < most:
+        chosen = draw.random()
+        if chosen < 0.8:
+            offer = mode_a.Offer("text", block(draw))
+        elif chosen < 0.9:
+            offer = mode_a.NOTHING
+        elif chosen < 0.998:
+            offer = mode_a.Offer("over", (0, 0, 0))
+        else:
+            offer = mode_a.Offer("end", (0, 0, 0))
+        answer = mode_a.step(master, spoil(heard), offer)
+        master = answer.station
+        burst = spoil(answer.burst)
+        bursts.append(burst)
+        reply = mode_a.step(slave, burst, mode_a.NOTHING)
+        slave = reply.station
+        heard = reply.burst
+        if STANDBY in (master.place, slave.place) and draw.random() < 0.1:
+            break
+    return bursts
+
+
+def joined(bursts):
+    return bytes(word for burst in bursts for word in burst)
+
+
+def hear_cases(draw):
+    example = bytes([116, 86, 51, 86, 0, 86, 54, 99, 114, 51, 15, 51])
+    out = [quickly("01's example", example), quickly("empty", b""),
+           slowly("01's example", example),
+           slowly("a circuit", joined(led_circuit(draw, 40)))]
+    for length in range(1, 12):
+        out.append(quickly("first %d bytes of 01's example" % length,
+                           example[:length]))
+        out.append(quickly("%d traffic signals" % length,
+                           bytes(draw.choices(TRAFFIC, k=length))))
+    for _ in range(20):
+        out.append(quickly("random bytes",
+                           bytes(draw.choices(WORDS, k=draw.randint(90, 200)))))
+        out.append(quickly("random intact words",
+                           bytes(draw.choices(INTACT, k=draw.randint(90, 900)))))
+    # Time-out to the burst: 30 to 33 bad ones, with a good one among them.
+    for bad in (30, 31, 32, 33):
+        lead = [single(0)] * bad + [block(draw)] + [single(0)] * 33 + [block(draw)]
+        out.append(quickly("%d bad bursts" % bad, joined(lead)))
+    total = sum(len(case.data) for case in out) // 3
+    number = 0
+    while total < LEAST_HEAR_BURSTS:
+        most = draw.choice((50, 300, 1000, 3000))
+        if number % 3 == 2:
+            bursts = model_circuit(draw, most, draw.choice((0, 0.02, 0.1, 0.3)))
+            about = "circuit of a model master"
+        else:
+            bursts = led_circuit(draw, most)
+            about = "slave led through turns"
+        number += 1
+        data = joined(bursts)
+        cut = draw.choice((0, 0, 1, 2))
+        data = data[:len(data) - cut]
+        total += len(bursts)
+        out.append(quickly(about, data))
+    return out
+
+
+# --- steps ---
+
+STEPS_IN_A_CASE = 20000
+
+
+def burst_of_kind(draw, kind):
+    """The kinds of burst of docs/DECISIONS.md, each drawn at random."""
+    others = [word for word in IN_BLOCK if word not in (CS1, CS2, CS3)]
+    if kind < 6:
+        first = (CS1, CS2, CS3)[kind // 2]
+        if kind % 2 == 0:
+            return (first,) + tuple(draw.choices(IN_BLOCK, k=2))
+        rest = draw.choice(((0, 0), tuple(draw.choices(WORDS, k=2)),
+                            tuple(draw.choices(NOT_IN_BLOCK, k=2))))
+        return (first,) + rest
+    if kind == 6:
+        return (RQ, RQ, RQ)
+    if kind == 7:
+        return (RQ,) + draw.choice(((0, 0), (RQ, 0), (0, RQ), (71, 71),
+                                    tuple(draw.choices(WORDS, k=2))))
+    if kind == 8:
+        return (draw.choice(others + [PLUS, QUERY, FIGURES, BETA] * 4),) + tuple(
+            draw.choices(IN_BLOCK + [PLUS, QUERY, FIGURES, BETA] * 4, k=2))
+    if kind == 9:
+        return (BETA, ALPHA, BETA)
+    if kind == 10:
+        return (ALPHA, ALPHA, ALPHA)
+    # Anything else, near misses often.
+    return draw.choice((
+        tuple(draw.choices(WORDS, k=3)), (0, 0, 0), (ALPHA, ALPHA, 0),
+        (ALPHA, 0, ALPHA), (0, ALPHA, ALPHA), (BETA, ALPHA, ALPHA),
+        (ALPHA, BETA, ALPHA), (BETA, ALPHA, 0), (0, RQ, RQ), (71, RQ, RQ),
+        (71, 71, RQ), (71, 0, 71), (128 + CS1, 0, 0), (71, 86, ALPHA)))
+
+
+def offer_of_sort(draw, sort):
+    """Byte 13 and the three words: nothing, good text, bad text, over, end,
+    and text with one word of any value."""
+    kind = (0, 1, 1, 2, 3, 1)[sort]
+    words = draw.choices(IN_BLOCK, k=3)
+    if sort == 2:
+        for index in draw.choice(((0,), (1,), (2,), (0, 1), (1, 2), (0, 1, 2))):
+            words[index] = draw.choice(NOT_IN_BLOCK)
+    elif sort == 5:
+        words[draw.randrange(3)] = draw.choice(WORDS)
+    elif kind != 1:
+        words = draw.choices(WORDS, k=3)
+    return (kind + 4 * draw.randrange(64),) + tuple(words)
+
+
+def record(draw, role, place, number, count, burst, offer, total=None,
+           case=None, plus=None, held=None):
+    """A record of 17 bytes.  Only the low part of a field counts, so the rest
+    of its byte is drawn at random; so are fields the place does not carry."""
+    def above(value, step):
+        return value + step * draw.randrange(256 // step)
+
+    if held is None:
+        held = draw.choices(IN_BLOCK, k=3)
+        if draw.random() < 0.05:
+            held[draw.randrange(3)] = draw.choice(NOT_IN_BLOCK)
+    if total is None:
+        total = draw.choice((1, 2, 3, 4, 1, 2, 3, 4, 0, 5, 255))
+    if case is None:
+        case = draw.randrange(2)
+    if plus is None:
+        plus = draw.randrange(2)
+    fields = (above(role, 2), above(place, 8), above(number, 2)) + tuple(held) + (
+        total, count, above(case, 2), above(plus, 2))
+    return bytes(fields + tuple(burst) + tuple(offer))
+
+
+def steps_records(draw):
+    """All the records, at least 200,000."""
+    nothing = (0, 0, 0, 0)
+    # Each place with each kind of burst, each sort of offer, each count.
+    for _ in range(17):
+        for place in range(8):
+            for kind in range(12):
+                for sort in range(6):
+                    for role in range(2):
+                        for number in range(2):
+                            for count in (0, 31, draw.choice((1, 15, 29, 30)),
+                                          draw.choice((0, 31, 32, 33, 255))):
+                                yield record(draw, role, place, number, count,
+                                             burst_of_kind(draw, kind),
+                                             offer_of_sort(draw, sort))
+    # Each of the 256 words at each place in the burst, at each place.
+    for place in range(8):
+        for word in WORDS:
+            for index in range(3):
+                for role in range(2):
+                    burst = draw.choice(([0, 0, 0], [71, 86, 51], [RQ, RQ, RQ],
+                                         [ALPHA] * 3, [BETA, ALPHA, BETA]))
+                    burst = list(burst)
+                    burst[index] = word
+                    yield record(draw, role, place, draw.randrange(2), 0, burst,
+                                 nothing)
+    # The over: all blocks of a few words, from each case, with + and without.
+    few = (PLUS, QUERY, BETA, FIGURES, LETTERS, CS2, 71, ALPHA, 0)
+    for one in few:
+        for two in few:
+            for three in few:
+                for case in range(2):
+                    for plus in range(2):
+                        offer = offer_of_sort(draw, draw.choice((0, 3)))
+                        yield record(draw, draw.randrange(2), 4, draw.randrange(2),
+                                     draw.choice((0, 31)), (one, two, three), offer,
+                                     case=case, plus=plus)
+    # Each count and each total with each place.
+    for place in range(8):
+        for value in WORDS:
+            yield record(draw, 0, place, 1, value, any_burst(draw), nothing)
+            yield record(draw, 1, place, 0, 0, any_burst(draw),
+                         offer_of_sort(draw, 1), total=value)
+    # Each word held, each word offered, at Sending and elsewhere.
+    for word in WORDS:
+        for index in range(3):
+            words = draw.choices(IN_BLOCK, k=3)
+            words[index] = word
+            yield record(draw, 0, 0, 1, 0, single(CS2), nothing, held=words)
+            yield record(draw, 0, draw.randrange(8), 1, 0, single(CS1),
+                         (1,) + tuple(words), held=words)
+            yield record(draw, 1, 2, 0, 0, single(CS2), (1,) + tuple(words))
+    # Records of any bytes, with the count below 32 in half of them.
+    for number in range(30000):
+        any_bytes = bytearray(draw.choices(WORDS, k=17))
+        if number % 2 == 0:
+            any_bytes[7] %= 32
+            any_bytes[3:6] = bytes(draw.choices(IN_BLOCK, k=3))
+        yield bytes(any_bytes)
+
+
+def steps_cases(draw):
+    records = list(steps_records(draw))
+    out = [quickly("empty", b""), slowly("8 records", b"".join(records[:8]))]
+    for length in (1, 16, 18, 33, 34, 35):
+        out.append(quickly("cut to %d bytes" % length,
+                           b"".join(records[:3])[:length]))
+    for start in range(0, len(records), STEPS_IN_A_CASE):
+        part = b"".join(records[start:start + STEPS_IN_A_CASE])
+        tail = bytes(draw.choices(WORDS, k=draw.randrange(17)))
+        out.append(quickly("records from %d on" % start, part + tail))
+    return out
+
+
+# --- calls ---
+
+CALLS_IN_A_CASE = 400
+
+
+def low_first(value, length):
+    return value.to_bytes(length, "little")
+
+
+def text_record(kind, case, room, body):
+    body = bytes(body)
+    return (kind + bytes([case]) + low_first(room, 2) + low_first(len(body), 2)
+            + body)
+
+
+def slot_record(number, words):
+    words = bytes(words)
+    return b"S" + low_first(number, 4) + low_first(len(words), 2) + words
+
+
+def room_needed(call, case, body):
+    """How much room the call needs, or a room drawn where it is refused."""
+    answer = call(("letters", "figures")[case % 2], body, bytearray(8192))
+    if isinstance(answer, Refused):
+        return None
+    return answer.length
+
+
+def with_room(draw, kind, call, body, sort=None):
+    """A record of the call with a room of one sort: as needed, one less, one
+    more, none, any, or the most."""
+    case = draw.randrange(256)
+    needed = room_needed(call, case, body)
+    if needed is None:
+        needed = draw.randrange(9)
+    if sort is None:
+        sort = draw.choice((0, 0, 0, 1, 1, 2, 3, 4))
+    room = (needed, max(needed - 1, 0), min(needed + 1, 8192), 0,
+            draw.randrange(2 * needed + 2), 8192)[sort]
+    return text_record(kind, case, min(room, 8192), body)
+
+
+def text_records(draw, kind, call, make, bad, limit):
+    """E or P records.  make(n): a body the call takes; bad: bytes it refuses;
+    limit: the most it takes."""
+    # Each byte at each of the first places.
+    for place in range(5):
+        for byte in WORDS:
+            body = bytearray(make(5))
+            body[place] = byte
+            yield with_room(draw, kind, call, bytes(body))
+    # Short bodies with each sort of room.
+    for length in range(0, 40):
+        for sort in range(5):
+            for _ in range(8):
+                yield with_room(draw, kind, call, make(length), sort)
+    for _ in range(1400):
+        yield with_room(draw, kind, call, make(draw.randrange(120)))
+    for _ in range(500):
+        body = bytes(draw.choices(WORDS, k=draw.randrange(12)))
+        yield with_room(draw, kind, call, body)
+    for _ in range(400):
+        body = bytearray(make(draw.randint(1, 60)))
+        for _ in range(draw.choice((1, 1, 2, 3))):
+            body[draw.randrange(len(body))] = draw.choice(bad)
+        yield with_room(draw, kind, call, bytes(body))
+    for length in (0, 1, 30):
+        for _ in range(3):
+            yield with_room(draw, kind, call, make(length), 5)
+    # Around the limit.
+    for length in (limit - 1, limit, limit + 1):
+        for sort in range(6):
+            yield with_room(draw, kind, call, make(length), sort)
+        for index in (0, length // 2, limit - 1, limit, length - 1):
+            if index < length:
+                body = bytearray(make(length))
+                body[index] = draw.choice(bad)
+                yield with_room(draw, kind, call, bytes(body), draw.choice((0, 3, 5)))
+    yield text_record(kind, 0, 8192, make(8193))
+    yield text_record(kind, 1, 0, bytes(draw.choices(WORDS, k=8193)))
+    for _ in range(25):
+        yield with_room(draw, kind, call, make(draw.randint(1000, limit)))
+
+
+def encode_records(draw):
+    def make(length):
+        return letter(draw, length) if draw.random() < 0.5 else characters(draw, length)
+
+    yield from text_records(draw, b"E", text.encode, make, NO_CHARACTERS, 4096)
+    for sort in range(6):
+        # The most room that encoding ever needs.
+        body = (b"1A" if sort % 2 == 0 else b"A1") * 2048
+        yield with_room(draw, b"E", text.encode, body, sort)
+
+
+def print_records(draw):
+    def make(length):
+        return bytes(signals(draw, length))
+
+    yield from text_records(draw, b"P", text.print_signals, make, NOT_PRINTABLE,
+                            8192)
+
+
+def slot_records(draw):
+    def make(length):
+        return draw.choices(TRAFFIC, k=length)
+
+    # Every slot of a short text and some behind it, and numbers of any size.
+    for words in ([], [86], [71, 86]):
+        count = len(broadcast.slots(words))
+        for number in range(count + 4):
+            yield slot_record(number, words)
+        for number in (255, 256, 65535, 65536, 2 ** 31 - 1, 2 ** 31, 2 ** 32 - 1):
+            yield slot_record(number, words)
+    # Both sides of each break: slots around the break, around the end, any.
+    for number in ALL_BREAKS:
+        for length in sides(number):
+            words = make(length)
+            count = len(broadcast.slots(words))
+            at = 2 * (16 + 100 * number - 4)
+            chosen = [at + draw.randrange(-6, 16), at + draw.randrange(-6, 16),
+                      count - draw.randrange(1, 40), count - 1, count,
+                      count + draw.randrange(1, 40), draw.randrange(count)]
+            for one in chosen:
+                yield slot_record(one, words)
+    # Whole stretches around the first two breaks.
+    words = make(193)
+    for one in range(212, 252):
+        yield slot_record(one, words)
+    for one in range(412, 468):
+        yield slot_record(one, words)
+    for length in (8190, 8191, 8192):
+        words = make(length)
+        for one in (0, 1, 17000, 17129, 17130, 17131, 17132, 17133, 17134,
+                    2 ** 32 - 1):
+            yield slot_record(one, words)
+    # Refusals: 7 before 3 before 6.
+    yield slot_record(0, make(8193))
+    yield slot_record(2 ** 32 - 1, [0] * 8193)
+    not_traffic = [word for word in WORDS if word not in TRAFFIC]
+    for word in WORDS:
+        yield slot_record(draw.randrange(90), make(2) + [word] + make(2))
+    for _ in range(200):
+        words = make(draw.randint(1, 120))
+        for _ in range(draw.choice((1, 1, 2))):
+            words[draw.randrange(len(words))] = draw.choice(not_traffic)
+        yield slot_record(draw.choice((0, 50, 10 ** 6)), words)
+    for _ in range(1000):
+        words = make(draw.randrange(220))
+        yield slot_record(draw.randrange(2 * len(words) + 80), words)
+
+
+def hostile_tails(draw, slots):
+    """What ends the program: bad kinds, rooms, lengths, and cut records."""
+    kinds = [byte for byte in WORDS if byte not in b"EPS"]
+    for byte in draw.sample(kinds, 12) + list(b"eps"):
+        yield "kind %d" % byte, bytes([byte]) + text_record(b"E", 0, 9, b"AB")
+    heads = [b"E", b"P"]
+    for head in heads:
+        for room in (8193, 8194, 65535):
+            yield "room %d" % room, text_record(head, 0, room, b"") + b"E"
+        for length in (8194, 65535):
+            whole = head + b"\0" + low_first(5, 2) + low_first(length, 2)
+            yield "length %d" % length, whole + bytes([71]) * length
+        whole = text_record(head, 1, 5, bytes([71] * 6))
+        for length in range(1, len(whole)):
+            yield "record cut to %d" % length, whole[:length]
+    if slots:
+        for length in (8194, 65535):
+            whole = b"S" + low_first(5, 4) + low_first(length, 2)
+            yield "length %d" % length, whole + bytes([71]) * length
+        whole = slot_record(5, [71] * 4)
+        for length in range(1, len(whole)):
+            yield "record cut to %d" % length, whole[:length]
+
+
+def calls_cases(draw, slots):
+    records = list(encode_records(draw)) + list(print_records(draw))
+    if slots:
+        records.extend(slot_records(draw))
+    draw.shuffle(records)
+    short = [one for one in records if len(one) < 40]
+    out = [quickly("empty", b""), slowly("6 records", b"".join(short[:6])),
+           slowly("4 records and a bad one", b"".join(short[6:10]) + b"?")]
+    for start in range(0, len(records), CALLS_IN_A_CASE):
+        out.append(quickly("records from %d on" % start,
+                           b"".join(records[start:start + CALLS_IN_A_CASE])))
+    for about, tail in hostile_tails(draw, slots):
+        good = b"".join(draw.choices(short, k=draw.choice((0, 1, 5))))
+        out.append(quickly(about, good + tail))
+    return out
+
+
+MAKERS = {
+    "hear": hear_cases,
+    "encode": encode_cases,
+    "print": print_cases,
+    "send": send_cases,
+    "receive": receive_cases,
+    "steps": steps_cases,
+}
+
+NAMES = ("hear", "encode", "print", "send", "receive", "steps", "calls")

@@ -1,0 +1,749 @@
+#!/usr/bin/env python3
+"""Tests of the second program by itself: paper 01's worked examples, the
+corners of its rules, and what demand 3 asks of two stations.  No proved
+program is run here; second/compare does that."""
+
+import random
+import sys
+
+sys.dont_write_bytecode = True
+
+import broadcast  # noqa: E402
+import programs  # noqa: E402
+import signals  # noqa: E402
+import station as mode_a  # noqa: E402
+import text  # noqa: E402
+from refusal import Refused  # noqa: E402
+from signals import (ALPHA, BETA, BLANK, CARRIAGE_RETURN, CS1, CS2, CS3,  # noqa: E402
+                     FIGURES, LETTERS, LINE_FEED, PLUS, QUERY, RQ, SPACE)
+from station import (ASKING, ENDING, LOST, NOTHING, OPENING, RECEIVING,  # noqa: E402
+                     SENDING, STANDBY, TURNING, Offer, Station)
+from text import Written  # noqa: E402
+
+A = signals.traffic_word(1)
+D = signals.traffic_word(4)
+E = signals.traffic_word(5)
+L = signals.traffic_word(12)
+
+INTACT = [word for word in range(256) if signals.MEANING[word] != 0]
+TRAFFIC = [word for word in INTACT if signals.is_traffic(word)]
+MUTILATED = [word for word in range(256) if signals.MEANING[word] == 0]
+
+OVER = Offer("over", (0, 0, 0))
+END = Offer("end", (0, 0, 0))
+
+
+def text_offer(*words):
+    return Offer("text", words)
+
+
+def at(place, number=0, held=(0, 0, 0), total=0, count=0, case="letters",
+       plus=False, master=True):
+    return Station(master, place, number, held, total, count, case, plus)
+
+
+def answer(station, *burst, offer=NOTHING):
+    return mode_a.step(station, burst, offer)
+
+
+def shown(result):
+    """The parts of an answer that most tests look at."""
+    return (result.station.place, result.station.number, result.burst,
+            result.printed, result.taken, result.station.count)
+
+
+RQ3 = (RQ, RQ, RQ)
+TURN = (BETA, ALPHA, BETA)
+
+
+# --- The code ---
+
+def code_examples():
+    assert signals.MEANING[71] == 1 and signals.MEANING[86] == 5
+    for word in (0, 127, 199):
+        assert not signals.intact(word) and signals.MEANING[word] == 0
+    assert (ALPHA, BETA, RQ, CS1, CS2, CS3) == (15, 51, 102, 101, 106, 89)
+
+
+def code_all_256():
+    assert len(INTACT) == 35 and len(TRAFFIC) == 32
+    for word in range(256):
+        assert signals.intact(word) == (signals.MEANING[word] != 0)
+    assert sorted(signals.MEANING[word] for word in INTACT) == list(range(1, 36))
+
+
+# --- Text ---
+
+def encoded(case, characters, room=8192):
+    lent = bytearray(b"\xaa" * room)
+    result = text.encode(case, characters, lent)
+    if isinstance(result, Refused):
+        assert lent == b"\xaa" * room
+        return result
+    assert lent[result.length:] == b"\xaa" * (room - result.length)
+    return list(lent[:result.length]), result.case
+
+
+def printed(case, words, room=8192):
+    lent = bytearray(b"\xaa" * room)
+    result = text.print_signals(case, words, lent)
+    if isinstance(result, Refused):
+        assert lent == b"\xaa" * room
+        return result
+    assert lent[result.length:] == b"\xaa" * (room - result.length)
+    return bytes(lent[:result.length]), result.case
+
+
+def encode_examples():
+    assert encoded("letters", b"A1") == ([71, 54, 46], "figures")
+    assert encoded("letters", b"1 2") == ([54, 46, 92, 39], "figures")
+    assert encoded("letters", b"") == ([], "letters")
+    assert encoded("letters", b"A 1") == ([71, SPACE, FIGURES, 46], "figures")
+    assert encoded("letters", b"a") == Refused(1, 0)
+    assert encoded("letters", b"A1", room=2) == Refused(2, 3)
+    assert encoded("letters", b"A" * 4096)[1] == "letters"
+    assert encoded("letters", b"A" * 4097) == Refused(5, 4096)
+
+
+def encode_corners():
+    assert encoded("letters", b"", room=0) == ([], "letters")
+    assert encoded("letters", b"A1", room=3) == ([71, 54, 46], "figures")
+    # 5 and 7 stand in the figure column and need figures case.
+    assert encoded("letters", b"\x05") == ([FIGURES, D], "figures")
+    assert encoded("figures", b"\x07")[0] == [signals.traffic_word(10)]
+    # What F, G, H and the error mark print does not encode.
+    assert encoded("figures", b"A#") == Refused(1, 1)
+    assert encoded("figures", b"*") == Refused(1, 0)
+    # 5 before 1 before 2.
+    assert encoded("letters", b"a" * 4097, room=0) == Refused(5, 4096)
+    assert encoded("letters", b"AAa", room=0) == Refused(1, 2)
+    assert len(text.SIGNAL_OF) == 52
+    # The longest answer: a shift before each of 4,096 characters.
+    longest, case = encoded("letters", b"1A" * 2048)
+    assert len(longest) == 8192 and case == "letters"
+
+
+def print_corners():
+    assert printed("letters", []) == (b"", "letters")
+    assert printed("letters", [], room=0) == (b"", "letters")
+    f, g, h = (signals.traffic_word(number) for number in (6, 7, 8))
+    assert printed("figures", [f, g, h]) == (b"###", "figures")
+    assert printed("letters", [f, g, h]) == (b"FGH", "letters")
+    assert printed("letters", [255, FIGURES, 255]) == (b"**", "figures")
+    # A shift of the case in force stays.
+    assert printed("letters", [LETTERS, A]) == (b"A", "letters")
+    assert printed("figures", [FIGURES, A]) == (b"-", "figures")
+    assert printed("figures", [LETTERS, A]) == (b"A", "letters")
+    assert printed("letters", [FIGURES, BLANK, LETTERS], room=0) == (b"", "letters")
+    for word in (BETA, ALPHA, RQ, 0, 128, 254):
+        assert printed("letters", [A, word, word]) == Refused(3, 1)
+    # 7 before 3 before 2; the room is counted in bytes printed.
+    assert printed("letters", [0] * 8193, room=0) == Refused(7, 8192)
+    assert printed("letters", [A, 0], room=0) == Refused(3, 1)
+    assert printed("letters", [A, FIGURES, A], room=1) == Refused(2, 2)
+    assert printed("letters", [A] * 8192) == (b"A" * 8192, "letters")
+
+
+def text_round_trip():
+    draw = random.Random(1)
+    characters = sorted(text.SIGNAL_OF)
+    for _ in range(2000):
+        length = draw.randrange(60)
+        original = bytes(draw.choice(characters) for _ in range(length))
+        case = draw.choice(("letters", "figures"))
+        words, end = encoded(case, original, room=200)
+        assert printed(case, words, room=200) == (original, end)
+        # No shift where none is needed: never two in a row, none at the end.
+        for first, second in zip(words, words[1:] + [FIGURES]):
+            assert not {first, second} <= {LETTERS, FIGURES}
+
+
+# --- The station ---
+
+def sending_examples():
+    block = (A, E, BETA)
+    sending = at(SENDING, 1, block)
+    assert shown(answer(sending, CS1, 0, 0)) == (SENDING, 1, block, (), False, 1)
+    result = answer(sending, CS2, 0, 0, offer=text_offer(E, E, E))
+    assert shown(result) == (SENDING, 2, (E, E, E), (), True, 0)
+    assert shown(answer(sending, CS2, 0, 0))[2:] == ((BETA,) * 3, (), True, 0)
+    assert shown(answer(sending, 0, 0, 0)) == (SENDING, 1, RQ3, (), False, 1)
+    result = answer(sending, CS2, 0, 0, offer=OVER)
+    assert result.station.held == result.burst == (FIGURES, PLUS, QUERY)
+    result = answer(sending, CS2, 0, 0, offer=END)
+    assert shown(result) == (ENDING, 2, (ALPHA,) * 3, (), True, 0)
+    assert result.station.total == 1 and result.station.held == (0, 0, 0)
+
+
+def time_out_examples():
+    receiving = at(RECEIVING, 1, count=31)
+    result = answer(receiving, A, E, A)
+    assert shown(result) == (RECEIVING, 2, (CS2, 0, 0), (A, E, A), False, 0)
+    result = answer(receiving, A, 0, A)
+    assert shown(result) == (LOST, 0, (0, 0, 0), (), False, 0)
+    # The case and the + are kept.
+    result = answer(at(ASKING, count=31, case="figures", plus=True), A, E, A)
+    assert result.station == at(LOST, case="figures", plus=True)
+    # Count 31 with CS3 at Sending: confirmed, no time-out.
+    sending = at(SENDING, 2, (A, A, A), count=31)
+    result = answer(sending, CS3, 0, 0, offer=text_offer(E, E, E))
+    assert shown(result) == (TURNING, 2, TURN, (), False, 0)
+    assert answer(sending, CS2, 0, 0, offer=OVER).station == at(LOST)
+
+
+def first_word_only():
+    # Damage on the two zero words of CS1.
+    sending = at(SENDING, 2, (A, A, A))
+    clean = answer(sending, CS1, 0, 0)
+    for second in (0, 77, 255, RQ, ALPHA):
+        for third in (0, 1, 128, CS2):
+            assert answer(sending, CS1, second, third) == clean
+
+
+def over_across_blocks():
+    slave = at(RECEIVING, 1, case="figures", master=False)
+    heard = answer(slave, A, PLUS, BETA)
+    assert heard.station.plus and heard.burst == (CS2, 0, 0)
+    heard = answer(heard.station, BETA, BETA, BETA)
+    assert heard.station.plus and heard.printed == ()
+    heard = answer(heard.station, A, 0, QUERY)        # not accepted, no matter
+    assert heard.station.plus and heard.station.count == 1
+    heard = answer(heard.station, QUERY, A, A)
+    assert shown(heard) == (ASKING, 0, (CS3, 0, 0), (QUERY, A, A), False, 0)
+
+
+def over_cancelled():
+    def over_in(*block, case="figures", plus=False):
+        station = at(RECEIVING, 1, case=case, plus=plus)
+        return answer(station, *block).station.place == ASKING
+
+    assert over_in(PLUS, QUERY, A) and over_in(PLUS, BETA, QUERY)
+    assert over_in(PLUS, PLUS, QUERY) and over_in(QUERY, A, A, plus=True)
+    for between in TRAFFIC:
+        assert over_in(PLUS, between, QUERY) == (between in (PLUS, QUERY))
+    assert not over_in(QUERY, PLUS, A)
+    assert not over_in(PLUS, QUERY, A, case="letters")
+    # A + heard with letters case: ? is B there and completes nothing.
+    assert not over_in(QUERY, A, A, case="letters", plus=True)
+    # The two steps that cancel it.
+    asking = at(ASKING, case="figures", plus=True)
+    opening = answer(asking, BETA, ALPHA, BETA).station
+    assert opening == at(OPENING, case="figures")
+    turning = at(TURNING, 1, case="figures", plus=True)
+    assert answer(turning, RQ, RQ, RQ).station == at(RECEIVING, 2, case="figures")
+    # Entering Asking does not cancel it.
+    result = answer(at(RECEIVING, 1, case="figures"), PLUS, QUERY, PLUS)
+    assert result.station == at(ASKING, case="figures", plus=True)
+
+
+def over_offered():
+    receiving = at(RECEIVING, 2)
+    result = answer(receiving, A, A, A, offer=OVER)
+    assert shown(result) == (ASKING, 0, (CS3, 0, 0), (A, A, A), True, 0)
+    # At a bad block it waits.
+    result = answer(receiving, A, 0, A, offer=OVER)
+    assert shown(result) == (RECEIVING, 2, (CS2, 0, 0), (), False, 1)
+    # With alpha alpha alpha: Stand-by, not taken.
+    result = answer(receiving, ALPHA, ALPHA, ALPHA, offer=OVER)
+    assert shown(result) == (STANDBY, 0, (CS1, 0, 0), (), False, 0)
+    # Over heard and another offer: that offer is not taken.
+    figures = at(RECEIVING, 2, case="figures")
+    assert not answer(figures, PLUS, QUERY, A, offer=END).taken
+    assert answer(figures, PLUS, QUERY, A, offer=OVER).taken
+    # CS3 at Sending takes none, nothing included.
+    for offer in (NOTHING, OVER, END, text_offer(A, A, A)):
+        assert not answer(at(SENDING, 1, (A, A, A)), CS3, 0, 0, offer=offer).taken
+
+
+def opening_and_ending():
+    for master in (True, False):
+        opening = at(OPENING, master=master)
+        for number, control in ((1, CS1), (2, CS2)):
+            result = answer(opening, control, 0, 0, offer=END)
+            assert shown(result) == (ENDING, number, (ALPHA,) * 3, (), True, 0)
+            assert result.station.total == 1
+        assert shown(answer(opening, CS3, 0, 0)) == (
+            STANDBY, 0, (0, 0, 0), (), False, 0)
+        rq = (RQ, 0, 0) if master else RQ3
+        assert shown(answer(opening, A, A, A)) == (OPENING, 0, rq, (), False, 1)
+    for heard in (CS1, CS3, 0, RQ):
+        station = at(ENDING, 1, total=1)
+        for total in (2, 3, 4):
+            result = answer(station, heard, 0, 0)
+            assert result.burst == (ALPHA,) * 3
+            assert result.station == at(ENDING, 1, total=total)
+            station = result.station
+        assert answer(station, heard, 0, 0) == mode_a.Answer(
+            at(STANDBY), (0, 0, 0), (), False)
+    assert answer(at(ENDING, 1, total=1, count=31), CS2, 0, 0).station == at(STANDBY)
+
+
+def turning_by_role():
+    for master in (True, False):
+        turning = at(TURNING, 1, master=master)
+        assert answer(turning, *RQ3).station.place == RECEIVING
+        assert answer(turning, *RQ3).burst == (CS2, 0, 0)
+        assert answer(turning, CS3, 1, 2).burst == TURN
+        assert answer(turning, A, RQ, RQ).burst == RQ3
+        single = answer(turning, RQ, 0, 0)
+        assert (single.station.place == RECEIVING) == (not master)
+
+
+def station_refusals():
+    bad = text_offer(A, RQ, 0)
+    for place in (SENDING, TURNING, OPENING, RECEIVING, ASKING, STANDBY, LOST):
+        station = at(place, 1, (A, A, A) if place == SENDING else (0, 0, 0))
+        assert answer(station, A, A, A, offer=bad) == Refused(3, 1)
+        over = station._replace(count=32)
+        assert answer(over, A, A, A, offer=bad) == Refused(4, 0)
+        assert not isinstance(answer(station._replace(count=31), A, A, A), Refused)
+    for total in (0, 5, 255):
+        assert answer(at(ENDING, 1, total=total), A, A, A, offer=bad) == Refused(4, 0)
+    for word in (RQ, ALPHA, 0, 199):
+        assert answer(at(SENDING, 1, (A, A, word)), CS1, 0, 0) == Refused(4, 0)
+    # On the 32nd repetition too.
+    assert answer(at(ASKING, count=31), 0, 0, 0, offer=bad) == Refused(3, 1)
+
+
+def errors_that_look_right():
+    # Two equal blocks in succession are two blocks.
+    first = answer(at(RECEIVING, 1), A, A, A)
+    second = answer(first.station, A, A, A)
+    assert first.printed == second.printed == (A, A, A)
+    assert second.station.number == 1
+    # L inside a text block is not CS1.
+    assert answer(at(RECEIVING, 1), L, A, A).printed == (L, A, A)
+    # Beta is no text and does not cancel the over.
+    assert answer(at(RECEIVING, 1), BETA, A, BETA).printed == (A,)
+
+
+def rows_and_kinds():
+    """Each place against each kind of burst, written out a second time as a
+    table (docs/DECISIONS.md, kinds of burst)."""
+    seconds = [0, A, BETA, ALPHA, RQ, CS2, 128 + A]
+    for first in range(256):
+        for second in seconds:
+            for third in seconds:
+                check_kinds((first, second, third))
+
+
+def check_kinds(burst):
+    first = burst[0]
+    block = all(word in TRAFFIC or word == BETA for word in burst)
+    asked = {CS1: 1, CS2: 2}.get(first, 0)
+    for master in (True, False):
+        for n in (1, 2):
+            control = {1: (CS1, 0, 0), 2: (CS2, 0, 0)}
+            rq = (RQ, 0, 0) if master else RQ3
+
+            sent = answer(at(SENDING, n, (E, E, E), master=master), *burst)
+            if asked == n:
+                expected = (SENDING, n, (E, E, E))
+            elif asked:
+                expected = (SENDING, 3 - n, (BETA,) * 3)
+            else:
+                expected = (TURNING, n, TURN) if first == CS3 else (SENDING, n, RQ3)
+            assert shown(sent)[:3] == expected
+
+            turned = answer(at(TURNING, n, master=master), *burst)
+            if burst == RQ3 or (first == RQ and not master):
+                expected = (RECEIVING, 3 - n, control[3 - n])
+            else:
+                expected = (TURNING, n, TURN if first == CS3 else RQ3)
+            assert shown(turned)[:3] == expected
+
+            opened = answer(at(OPENING, master=master), *burst)
+            if asked:
+                expected = (SENDING, asked, (BETA,) * 3)
+            else:
+                expected = ((STANDBY, 0, (0, 0, 0)) if first == CS3
+                            else (OPENING, 0, rq))
+            assert shown(opened)[:3] == expected
+
+            ended = answer(at(ENDING, n, total=3, master=master), *burst)
+            expected = ((STANDBY, 0, (0, 0, 0)) if asked == 3 - n
+                        else (ENDING, n, (ALPHA,) * 3))
+            assert shown(ended)[:3] == expected
+
+            received = answer(at(RECEIVING, n, master=master), *burst)
+            if block:
+                expected = (RECEIVING, 3 - n, control[3 - n])
+            elif burst == (ALPHA,) * 3:
+                expected = (STANDBY, 0, control[3 - n])
+            else:
+                expected = (RECEIVING, n, control[n])
+            assert shown(received)[:3] == expected
+            assert (received.printed != ()) == (
+                block and burst != (BETA, BETA, BETA))
+
+        asked_for = answer(at(ASKING, master=master), *burst)
+        expected = ((OPENING, 0, rq) if burst == TURN
+                    else (ASKING, 0, (CS3, 0, 0)))
+        assert shown(asked_for)[:3] == expected
+        for place in (STANDBY, LOST):
+            assert answer(at(place, count=7), *burst, offer=END) == mode_a.Answer(
+                at(place), (0, 0, 0), (), False)
+
+
+# --- Demand 3 on random runs of two stations ---
+
+class Side:
+    """A station of a run and what has happened to it."""
+
+    def __init__(self, station):
+        self.station = station
+        self.blocks = []        # blocks put on the air from its offers
+        self.confirmed = 0      # how many of them it counts as confirmed
+        self.accepted = 0       # how many of the other's blocks it accepted
+
+    def copy(self):
+        twin = Side(self.station)
+        twin.blocks = list(self.blocks)
+        twin.confirmed = self.confirmed
+        twin.accepted = self.accepted
+        return twin
+
+
+def one_step(hearer, sender, burst, offer):
+    """The hearer hears the burst.  Checks what demand 3 says of printing and
+    confirming; answers the burst it sends and whether it confirmed."""
+    before = hearer.station
+    result = mode_a.step(before, burst, offer)
+    after = result.station
+    hearer.station = after
+    confirmed = before.place == SENDING and (result.taken or after.place == TURNING)
+    accepted = before.place == RECEIVING and (
+        after.place == ASKING
+        or (after.place == RECEIVING and after.number != before.number))
+    if confirmed:
+        hearer.confirmed += 1
+    if result.taken and after.place == SENDING:
+        hearer.blocks.append(after.held)
+    if accepted:
+        # The next of the other's blocks, none missing and none twice.
+        assert hearer.accepted < len(sender.blocks)
+        block = sender.blocks[hearer.accepted]
+        assert result.printed == tuple(w for w in block if w in TRAFFIC)
+        hearer.accepted += 1
+    else:
+        assert result.printed == ()
+    for one, two in ((hearer, sender), (sender, hearer)):
+        # What is confirmed is printed, and printing is ahead by one at most.
+        assert 0 <= two.accepted - one.confirmed <= 1
+    # The two never both have text on the way.
+    assert not hearer.station.place == sender.station.place == SENDING
+    return result.burst, confirmed
+
+
+def random_offer(draw):
+    chance = draw.random()
+    if chance < 0.70:
+        return text_offer(*(draw.choice(TRAFFIC + [BETA, PLUS, QUERY, FIGURES])
+                            for _ in range(3)))
+    if chance < 0.85:
+        return NOTHING
+    return OVER if chance < 0.995 else END
+
+
+def two_undamaged_exchanges(draw, sender, hearer, burst):
+    """A block waiting for its confirmation gets it within two undamaged
+    exchanges, each begun by its sender, unless a station is Lost first."""
+    sender, hearer = sender.copy(), hearer.copy()
+    for _ in range(2):
+        reply, _ = one_step(hearer, sender, burst, random_offer(draw))
+        burst, confirmed = one_step(sender, hearer, reply, random_offer(draw))
+        if confirmed or LOST in (sender.station.place, hearer.station.place):
+            return
+    raise AssertionError("no confirmation within two undamaged exchanges")
+
+
+def demand_three():
+    draw = random.Random(3)
+    turns = ends = losses = exchanges = 0
+    for run in range(2000):
+        master, slave = Side(mode_a.fresh_master()), Side(mode_a.fresh_slave())
+        # "the slave's CS1 first"
+        sender, hearer, burst = slave, master, (CS1, 0, 0)
+        damage = (0, 0.05, 0.2, 0.5)[run % 4]
+        for _ in range(120):
+            if sender.station.place == SENDING and draw.random() < 0.1:
+                two_undamaged_exchanges(draw, sender, hearer, burst)
+                exchanges += 1
+            heard = tuple(draw.choice(MUTILATED) if draw.random() < damage
+                          else word for word in burst)
+            place = hearer.station.place
+            burst, _ = one_step(hearer, sender, heard, random_offer(draw))
+            turns += place == TURNING and hearer.station.place == RECEIVING
+            sender, hearer = hearer, sender
+        places = (master.station.place, slave.station.place)
+        ends += STANDBY in places
+        losses += LOST in places
+    # The runs have to pass through what they are meant to show.
+    assert turns > 2000 and ends > 50 and losses > 50 and exchanges > 2000
+
+
+# --- Mode B ---
+
+def received(words):
+    receiver = broadcast.fresh_receiver()
+    out = []
+    for word in words:
+        receiver, signal = broadcast.hear_word(receiver, word)
+        if signal is not None:
+            out.append(signal)
+    return out, receiver
+
+
+HEAD = [CARRIAGE_RETURN, LINE_FEED]
+
+
+def sender_examples():
+    words = broadcast.slots([E])
+    assert len(broadcast.positions([E])) == 36 and len(words) == 72
+    assert [s for s in range(72) if words[s] == E] == [36, 41]
+    assert [s for s in range(72) if words[s] == CARRIAGE_RETURN] == [32, 37]
+    assert broadcast.slot([E], 36) == broadcast.slot([E], 41) == E
+    assert broadcast.slot([E], 72) == Refused(6, 72)
+    assert len(broadcast.positions([E] * 94)) == 129
+    assert len(broadcast.positions([E] * 95)) == 134
+
+
+def sender_corners():
+    assert broadcast.slot([], 0) == RQ
+    assert broadcast.slot([], 1) == broadcast.slot([], 3) == ALPHA
+    assert broadcast.slot([], 69) == ALPHA
+    assert broadcast.slot([], 70) == Refused(6, 70)
+    assert broadcast.slot([], 2 ** 32 - 1) == Refused(6, 70)
+    assert len(broadcast.positions([E] * 190)) == 16 + 2 + 190 + 4 + 17
+    assert len(broadcast.positions([E] * 191)) == 16 + 2 + 191 + 8 + 17
+    full = [E] * 8192
+    assert len(broadcast.positions(full)) == 8567
+    assert broadcast.slot(full, 17133) == ALPHA
+    assert broadcast.slot(full, 17134) == Refused(6, 17134)
+    assert broadcast.slot([0] * 8193, 0) == Refused(7, 8192)
+    for word in (BETA, ALPHA, RQ, 255, 0):
+        assert broadcast.slot([E, word, word], 99999) == Refused(3, 1)
+
+
+def search_is_last_four():
+    """The search by its run against 01's own words: four in a row alternate."""
+    draw = random.Random(5)
+    for _ in range(3000):
+        words = [draw.choice((ALPHA, RQ, ALPHA, RQ, E, 0)) for _ in range(12)]
+        receiver = broadcast.fresh_receiver()
+        for index, word in enumerate(words):
+            receiver, _ = broadcast.hear_word(receiver, word)
+            last = words[max(0, index - 3):index + 1]
+            found = last in ([ALPHA, RQ] * 2, [RQ, ALPHA] * 2)
+            assert found == isinstance(receiver, broadcast.InPhase)
+            if found:
+                # RQ marks DX: after an RQ the next slot is RX.
+                assert receiver.number % 2 == (word == RQ)
+                break
+    assert broadcast.hear_word(broadcast.Searching(4, RQ), RQ) == Refused(4, 0)
+    assert broadcast.hear_word(broadcast.Searching(3, RQ), E) == (
+        broadcast.fresh_receiver(), None)
+
+
+def lock_either_way():
+    words = broadcast.slots([E, A])
+    for start in range(29):                 # slots 28 to 31 are the last four
+        out, receiver = received(words[start:])
+        assert out == HEAD + [E, A]
+        assert isinstance(receiver, broadcast.Searching)
+    assert received(words[29:])[0] == []
+
+
+def lock_at_a_break():
+    """A break's phasing positions b to b+3 alternate in slots 2b+4 to 2b+7
+    alone: before and behind them a text signal stands in the other slot."""
+    words = broadcast.slots([E] * 94 + [A, LINE_FEED, A])
+    b = 16 + 96
+    assert words[2 * b + 4:2 * b + 8] == [RQ, ALPHA, RQ, ALPHA]
+    for start in (100, 2 * b, 2 * b + 4):
+        assert received(words[start:])[0] == [LINE_FEED, A]
+    assert received(words[2 * b + 5:])[0] == []
+    for damaged in range(2 * b + 4, 2 * b + 8):
+        late = list(words)
+        late[damaged] = 0
+        assert received(late[100:])[0] == []
+
+
+def end_of_reception():
+    # Empty text, the line feed heard by its DX alone.
+    words = broadcast.slots([])
+    words[2 * 17 + 5] = 0
+    assert received(words)[0] == HEAD
+    # The position before the two alpha is settled by its DX alone.
+    words = broadcast.slots([E])
+    words[36] = 0
+    assert received(words)[0] == HEAD + [255]
+    phasing = [RQ, ALPHA] * 4
+    # Two alpha before printing: nothing printed, and it searches anew.
+    out, receiver = received(phasing + [ALPHA, ALPHA, ALPHA])
+    assert out == [] and receiver == broadcast.fresh_receiver()
+    # The settled one may be the first return or line feed.
+    assert received(phasing + [LINE_FEED, 0, ALPHA, 0, ALPHA])[0] == [LINE_FEED]
+    assert received(phasing + [0, 0, ALPHA, 0, ALPHA])[0] == []
+    # A mutilated DX between the two breaks the pair.
+    out, receiver = received(phasing + [ALPHA, 0, 0, 0, ALPHA])
+    assert isinstance(receiver, broadcast.InPhase)
+
+
+def settling():
+    for dx in range(256):
+        for rx in (A, E, ALPHA, BETA, RQ, 0, 255):
+            settled = broadcast.settle(dx, rx)
+            if dx in INTACT and rx in INTACT:
+                if dx == rx:
+                    assert settled == dx
+                else:
+                    assert settled == ("phasing" if (dx, rx) == (RQ, ALPHA)
+                                       else "error")
+            elif dx in INTACT or rx in INTACT:
+                assert settled == (dx if dx in INTACT else rx)
+            else:
+                assert settled == "error"
+
+
+def perfect_copy():
+    """01: "Premise for a perfect copy", with random damage inside it."""
+    draw = random.Random(4)
+    for run in range(400):
+        length = draw.choice((0, 1, 2, 50, 93, 94, 95, 96, 200, 300))
+        words = [draw.choice(TRAFFIC) for _ in range(length)]
+        sent = broadcast.slots(words)
+        last = len(sent) // 2 - 18          # the last traffic position
+        keep = set()
+        first = draw.randrange(29)          # four phasing signals before text
+        keep.update(range(first, first + 4))
+        keep.update((2 * last, 2 * last + 2, 2 * last + 4))
+        for t in range(len(sent) // 2):
+            copies = [s for s in (2 * t, 2 * t + 5) if s < len(sent)]
+            keep.add(draw.choice(copies))
+        chance = (0.1, 0.5, 1)[run % 3]
+        heard = [word if s in keep or draw.random() >= chance
+                 else draw.choice(MUTILATED) for s, word in enumerate(sent)]
+        assert received(heard)[0] == HEAD + words
+
+
+# --- The programs ---
+
+def hear_example():
+    data = bytes([116, 86, 51, 86, 0, 86, 54, 99, 114, 51, 15, 51])
+    assert programs.hear(data) == (b"step answer printed\n"
+                                   b"1 CS2 5445\n2 CS2 none\n3 CS3 2B3F\n"
+                                   b"4 RQ.RQ.RQ none\n", b"")
+    assert programs.hear(b"") == (b"step answer printed\n", b"")
+    # Shifts alone print no byte; a short last burst is filled with zeros.
+    assert programs.hear(bytes([FIGURES, BLANK, BETA, A]))[0].endswith(
+        b"1 CS2 none\n2 CS2 none\n")
+    # Through a turn, and silent at last.
+    turned = data + bytes([CS1, 0, 0, CS3, 0, 0, RQ, 0, 0] + [ALPHA] * 4)
+    assert programs.hear(turned)[0].endswith(
+        b"5 beta.beta.beta none\n6 beta.alpha.beta none\n7 CS2 none\n"
+        b"8 CS1 none\n9 silent none\n")
+
+
+def words_in_and_out():
+    assert programs.PROGRAMS["print"](b"") == (b"", b"")
+    assert programs.PROGRAMS["print"](b" \t\r\n071\n0000086 ") == (b"AE", b"")
+    for data, place in ((b"71 300", 3), (b"71 7a", 3), (b"-1", 0), (b" 1\x0b2", 1),
+                        (b"71\n256", 3), (b"9" * 5000, 0)):
+        assert programs.PROGRAMS["print"](data) == (
+            b"", b"not a number at %d\n" % place)
+        assert programs.PROGRAMS["send"](data)[1] == (
+            b"not a number at %d\n" % place)
+    assert programs.PROGRAMS["print"](b"0" * 5000 + b"71") == (b"A", b"")
+    # A fault comes before a refusal; behind the 8,193rd it is not looked at.
+    assert programs.PROGRAMS["print"](b"0 x")[1] == b"not a number at 2\n"
+    assert programs.PROGRAMS["print"](b"0 71")[1] == b"refused 3 0\n"
+    many = b"71 " * 8192
+    assert programs.PROGRAMS["print"](many + b"x")[1] == b"not a number at 24576\n"
+    assert programs.PROGRAMS["print"](many + b"71 x")[1] == b"refused 7 8192\n"
+    assert programs.PROGRAMS["send"](many + b"71 x")[1] == b"refused 7 8192\n"
+    assert programs.encode(b"A" * 4096)[1] == b""
+    assert programs.encode(b"A" * 4096 + b"a")[1] == b"refused 5 4096\n"
+    assert programs.encode(b"A" * 17)[0] == b" ".join([b"71"] * 16) + b"\n71\n"
+
+
+def letter_through_all():
+    letter = b"SHIP'S STORES: 12 (TWELVE) CRATES, 3/4 FULL.\r\nREPLY +?"
+    words, error = programs.encode(letter)
+    heard, error = programs.send(words)
+    prints, error = programs.receive(heard)
+    assert programs.PROGRAMS["print"](prints) == (b"\r\n" + letter, b"")
+    # What was printed before a fault stays.
+    cut = heard.split(b"\n")
+    cut[5] = b"x" + cut[5]
+    place = len(b"\n".join(cut[:5])) + 1
+    prints, error = programs.receive(b"\n".join(cut))
+    assert prints.startswith(b"120 108") and prints.endswith(b"\n")
+    assert error == b"not a number at %d\n" % place
+
+
+def steps_records():
+    head = [1, 4, 1, 9, 9, 9, 9, 31, 0, 0]
+    accepted = bytes(head + [116, 86, 51] + [0, 9, 9, 9])
+    lost = bytes(head + [116, 0, 51] + [3, 9, 9, 9])
+    refused = bytes(head + [116, 0, 51] + [5, 71, 51, 15])
+    assert programs.steps(accepted + lost + refused + accepted[:16]) == (
+        b"receiving 2 0 0 0 0 0 letters 0 | 106 0 0 | 116 86 0 | 0\n"
+        b"lost 0 0 0 0 0 0 letters 0 | 0 0 0 | 0 0 0 | 0\n"
+        b"refused 3 2\n", b"")
+    sending = bytes([0, 8, 7, 71, 51, 86, 0, 5, 3, 5, 106, 1, 2, 4, 0, 0, 0])
+    assert programs.steps(sending)[0] == (
+        b"sending 2 51 51 51 0 0 figures 1 | 51 51 51 | 0 0 0 | 1\n")
+
+
+def calls_records():
+    def record(kind, case, room, body):
+        return (kind + bytes([case]) + room.to_bytes(2, "little")
+                + len(body).to_bytes(2, "little") + body)
+
+    good = (record(b"E", 0, 4, b"A1") + record(b"E", 1, 0, b"") +
+            record(b"P", 3, 3, bytes([71, 255])) + record(b"E", 0, 2, b"A1") +
+            b"S" + (36).to_bytes(4, "little") + b"\x01\x00\x56")
+    lines = (b"ok 3 figures 47362EAA\nok 0 figures -\nok 2 figures 2D2AAA\n"
+             b"refused 2 3 AAAA\nok 86\n")
+    assert programs.calls(good) == (lines, b"")
+    bad = b"bad record at %d\n" % len(good)
+    for tail in (b"X", b"E", b"S\0\0\0", record(b"E", 0, 8193, b""),
+                 record(b"P", 0, 8192, b"A" * 8194), record(b"E", 0, 9, b"AB")[:-1]):
+        assert programs.calls(good + tail + good) == (lines, bad) or (
+            tail in (b"E", b"S\0\0\0", record(b"E", 0, 9, b"AB")[:-1])
+            and programs.calls(good + tail) == (lines, bad))
+
+
+TESTS = [
+    code_examples, code_all_256,
+    encode_examples, encode_corners, print_corners, text_round_trip,
+    sending_examples, time_out_examples, first_word_only, over_across_blocks,
+    over_cancelled, over_offered, opening_and_ending, turning_by_role,
+    station_refusals, errors_that_look_right, rows_and_kinds, demand_three,
+    sender_examples, sender_corners, search_is_last_four, lock_either_way,
+    lock_at_a_break, end_of_reception, settling, perfect_copy,
+    hear_example, words_in_and_out, letter_through_all, steps_records,
+    calls_records,
+]
+
+
+def main():
+    passed = failed = 0
+    for test in TESTS:
+        try:
+            test()
+            passed += 1
+        except AssertionError as fault:
+            failed += 1
+            line = fault.__traceback__
+            while line.tb_next is not None:
+                line = line.tb_next
+            print("%s failed: tests.py or a module, line %d %s"
+                  % (test.__name__, line.tb_lineno, fault))
+    print("%d passed, %d failed" % (passed, failed))
+    return 1 if failed else 0
+
+
+if __name__ == "__main__":
+    sys.exit(main())
