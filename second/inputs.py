@@ -145,7 +145,7 @@ def encode_cases(draw):
         out.append(quickly("the same, one longer", bad + b"A"))
     out.append(quickly("bad byte beyond the limit",
                        characters(draw, 4096) + b"a" + characters(draw, 100)))
-    while len(out) < 150:
+    while len(out) < 110:
         length = draw.choice((draw.randrange(40), draw.randrange(400),
                               draw.randrange(4097)))
         kind = draw.randrange(5)
@@ -227,7 +227,7 @@ def print_cases(draw):
            slowly("signals and a fault", plain(make(30)) + b"71 7x 71")]
     out.extend(fault_cases(draw, make))
     out.extend(limit_cases(draw, make))
-    while len(out) < 150:
+    while len(out) < 120:
         length = draw.choice((draw.randrange(20), draw.randrange(300),
                               draw.randrange(3000)))
         words = make(length)
@@ -349,12 +349,16 @@ def receive_cases(draw):
            quickly("text E", plain(text_of_one)),
            quickly("no text", plain(broadcast.slots([]))),
            slowly("text E", plain(text_of_one))]
-    # Every slot of a short bulletin damaged, and listened to from.
-    for place in range(len(text_of_one)):
-        spoilt = list(text_of_one)
-        spoilt[place] = draw.choice(MUTILATED)
-        out.append(quickly("slot %d damaged" % place,
-                           plain(spoilt + text_of_one[place:])))
+    # Every slot of a short bulletin damaged, and listened to from.  The whole
+    # bulletin between lets the receiver begin anew.
+    for start in range(0, len(text_of_one), 8):
+        words = []
+        for place in range(start, start + 8):
+            spoilt = list(text_of_one)
+            spoilt[place] = draw.choice(MUTILATED)
+            words += spoilt + text_of_one + text_of_one[place:] + text_of_one
+        out.append(quickly("slots %d to %d damaged" % (start, start + 7),
+                           plain(words)))
     total = 0
     while total < LEAST_RECEIVE_WORDS:
         for kind in RECEIVE_KINDS:
@@ -453,7 +457,7 @@ def led_circuit(draw, most):
             burst = any_burst(draw)
         leaves = (burst == (ALPHA, ALPHA, ALPHA) and slave.place == RECEIVING
                   or burst[0] == CS3 and slave.place == OPENING)
-        if leaves and not near_end and draw.random() < 0.95:
+        if leaves and not near_end and draw.random() < 0.98:
             continue
         slave = mode_a.step(slave, burst, mode_a.NOTHING).station
         bursts.append(burst)
@@ -493,6 +497,27 @@ def model_circuit(draw, most, chance):
     return bursts
 
 
+def starved_circuit(draw, place, bad):
+    """Bursts that lead a slave to a place, leave it there for `bad` steps, help
+    it on with one burst and go on a little."""
+    slave = mode_a.fresh_slave()
+    bursts = []
+    while slave.place != place or slave.count > 0 or len(bursts) < 3:
+        burst = helpful_burst(draw, slave)
+        slave = mode_a.step(slave, burst, mode_a.NOTHING).station
+        bursts.append(burst)
+    kept = 0
+    while kept < bad:
+        burst = any_burst(draw)
+        after = mode_a.step(slave, burst, mode_a.NOTHING).station
+        if after.count == slave.count + 1 or after.place == LOST:
+            slave = after
+            bursts.append(burst)
+            kept += 1
+    bursts.append(helpful_burst(draw, slave))
+    return bursts + [any_burst(draw) for _ in range(5)]
+
+
 def joined(bursts):
     return bytes(word for burst in bursts for word in burst)
 
@@ -507,19 +532,20 @@ def hear_cases(draw):
                            example[:length]))
         out.append(quickly("%d traffic signals" % length,
                            bytes(draw.choices(TRAFFIC, k=length))))
-    for _ in range(20):
+    for _ in range(10):
         out.append(quickly("random bytes",
                            bytes(draw.choices(WORDS, k=draw.randint(90, 200)))))
         out.append(quickly("random intact words",
                            bytes(draw.choices(INTACT, k=draw.randint(90, 900)))))
-    # Time-out to the burst: 30 to 33 bad ones, with a good one among them.
-    for bad in (30, 31, 32, 33):
-        lead = [single(0)] * bad + [block(draw)] + [single(0)] * 33 + [block(draw)]
-        out.append(quickly("%d bad bursts" % bad, joined(lead)))
+    # The time-out to the burst, at each place that has one.
+    for place in (SENDING, TURNING, OPENING, RECEIVING, ASKING):
+        for bad in (30, 31, 32, 33):
+            out.append(quickly("%d bad bursts at %s" % (bad, place),
+                               joined(starved_circuit(draw, place, bad))))
     total = sum(len(case.data) for case in out) // 3
     number = 0
     while total < LEAST_HEAR_BURSTS:
-        most = draw.choice((50, 300, 1000, 3000))
+        most = draw.choice((100, 1000, 2000, 4000))
         if number % 3 == 2:
             bursts = model_circuit(draw, most, draw.choice((0, 0.02, 0.1, 0.3)))
             about = "circuit of a model master"
@@ -640,10 +666,12 @@ def steps_records(draw):
             for three in few:
                 for case in range(2):
                     for plus in range(2):
-                        offer = offer_of_sort(draw, draw.choice((0, 3)))
-                        yield record(draw, draw.randrange(2), 4, draw.randrange(2),
-                                     draw.choice((0, 31)), (one, two, three), offer,
-                                     case=case, plus=plus)
+                        for sort in (0, 1, 3, 4):
+                            yield record(draw, draw.randrange(2), 4,
+                                         draw.randrange(2), draw.choice((0, 31)),
+                                         (one, two, three),
+                                         offer_of_sort(draw, sort),
+                                         case=case, plus=plus)
     # Each count and each total with each place.
     for place in range(8):
         for value in WORDS:
@@ -758,7 +786,8 @@ def text_records(draw, kind, call, make, bad, limit):
             if index < length:
                 body = bytearray(make(length))
                 body[index] = draw.choice(bad)
-                yield with_room(draw, kind, call, bytes(body), draw.choice((0, 3, 5)))
+                yield with_room(draw, kind, call, bytes(body),
+                                draw.choice((0, 3, 5)))
     yield text_record(kind, 0, 8192, make(8193))
     yield text_record(kind, 1, 0, bytes(draw.choices(WORDS, k=8193)))
     for _ in range(25):
@@ -767,7 +796,8 @@ def text_records(draw, kind, call, make, bad, limit):
 
 def encode_records(draw):
     def make(length):
-        return letter(draw, length) if draw.random() < 0.5 else characters(draw, length)
+        way = letter if draw.random() < 0.5 else characters
+        return way(draw, length)
 
     yield from text_records(draw, b"E", text.encode, make, NO_CHARACTERS, 4096)
     for sort in range(6):

@@ -4,12 +4,13 @@ ghost use Prim.Native.Nat.{_+_, _≤_};
 ghost use lib.ListN.{length};
 ghost use Rattle.laws.specs.Room.{Wrote};
 ghost use Rattle.text.specs.Written.{counted, leaves};
-ghost use Rattle.text.specs.Encoding.{characterOf, isCharacter, shift, signalsFor, caseAfter, encoded, encoding, saidEncoded};
+ghost use Rattle.text.specs.Encoding.{characterOf, isCharacter, hasSignal, shift, signalsFor, caseAfter, encoded, endsEncoded, encoding, saidEncoded};
+ghost use Rattle.text.specs.Survey.{surveyOf};
 ghost use Rattle.encoding.specs.Holder.{holderOf};
-ghost use Rattle.encoding.specs.Survey.{surveyOf};
 use signals::Case;
 use text::Character;
 use text::Encoded;
+use text::Surveyed;
 
 // Every byte, from 0, and the number of the signal that has it as a character; 0 where none has.
 const NUMBER: [u8; 256] = [
@@ -271,13 +272,6 @@ const NUMBER: [u8; 256] = [
     0,
 ];
 
-// What a look over the text finds: the index of the first byte without a signal, or the room that the text needs and the
-// case that it ends in.
-pub enum Surveyed {
-    NoSignal(usize),
-    Needs { room: usize, ends: Case },
-}
-
 // The number of the signal that has the byte as a character; 0 where none has.
 fn holder(byte: u8) -> u8
     ensures { λ r. ⌜ r ≡ holderOf byte ⌝ }
@@ -350,9 +344,10 @@ fn case_after(case: Case, character: Character) -> Case
     }
 }
 
+// The first byte without a signal, or the room that the text needs and the case that it ends in.
 fn survey(text: &[u8], case: Case) -> Surveyed
     requires { ⌜ length (now text) ≤ 4096 ⌝ }
-    ensures { λ r. ⌜ r ≡ surveyOf (now (text .entry)) case ⌝ }
+    ensures { λ r. ⌜ r ≡ surveyOf hasSignal encoded endsEncoded (now (text .entry)) case ⌝ }
 {
     let mut room = 0;
     let mut ends = case;
@@ -360,7 +355,7 @@ fn survey(text: &[u8], case: Case) -> Surveyed
     while i < text.len() {
         let character = character(text[i]);
         if !has_signal(character) {
-            return Surveyed::NoSignal(i);
+            return Surveyed::Bad(i);
         }
         room += signals_for(ends, character);
         ends = case_after(ends, character);
@@ -439,7 +434,7 @@ pub fn encode(text: &[u8], case: Case, room: &mut [u8]) -> Encoded
     }
     let found = survey(text, case);
     match found {
-        Surveyed::NoSignal(i) => Encoded::NoSignal(i),
+        Surveyed::Bad(i) => Encoded::NoSignal(i),
         Surveyed::Needs { room: needed, ends } => {
             if room.len() < needed {
                 return Encoded::NoRoom(needed);

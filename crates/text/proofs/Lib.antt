@@ -1,3 +1,9 @@
 -- Laws of the text path that the crates above cite.
---     EncodingLaws   encoding, from one character to the next, and at each answer
+--     WalkLaws       a list that is turned entry by entry with a case carried along, as encoding and printing both do
+--     AnswerLaws     the answer and the lent room, at each refusal and at success
+--     EncodingLaws   encoding is such a walk; how long it gets
+--     PrintingLaws   printing is such a walk
+pub mod WalkLaws
+pub mod AnswerLaws
 pub mod EncodingLaws
+pub mod PrintingLaws

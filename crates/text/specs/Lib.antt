@@ -2,6 +2,8 @@
 --     Written    what both calls answer: bytes written and the case they end in
 --     Encoding   characters to signals
 --     Printing   signals to characters
+--     Survey     beside the rules: the look that both calls take before they write
 pub mod Written
 pub mod Encoding
 pub mod Printing
+pub mod Survey

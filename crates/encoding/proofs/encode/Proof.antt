@@ -1,11 +1,14 @@
 -- `encoding::encode` meets its contract: at each answer the law of that answer. Assumes nothing.
 use mathlib.Core.Path.{_≡_, sym, _∙_}
+use lib.ListN.{length}
 use native.Mathlib.Nat.{zero-add}
 use native.Mathlib.Omega.{arith}
 use Rattle.laws.proofs.Writes.{sets-over}
-use Rattle.text.specs.Encoding.{encoded}
-use Rattle.text.proofs.EncodingLaws.{too-long, no-signal, no-room, all-written}
-use Rattle.encoding.proofs.SurveyLaws.{none-means, needs-means}
+use Rattle.signals.specs.Numbers.{firstNot}
+use Rattle.text.specs.Encoding.{hasSignal, encoded, endsEncoded}
+use Rattle.text.proofs.AnswerLaws.{too-long, bad-entry, no-room, all-written}
+use Rattle.text.proofs.EncodingLaws.{encoding-judged}
+use Rattle.text.proofs.WalkLaws.{bad-means, needs-means}
 use borrow.Author.Needs.{needs}
 use Rattle.encoding.proofs.encode.Statement.{statement}
 use Rattle.encoding.proofs.encode.Tie as tie
@@ -17,7 +20,8 @@ use Rattle.encoding.proofs.write.Reads as write-reads
 returns : tie.Need-returns
 returns c =
     let a = c .before .before .before in
-    too-long (a .args .text .now) (a .args .case) (a .args .room .now) (c .if1 .taken)
+    rw encoding-judged
+    (too-long 4096 5 1 (length (a .args .text .now)) (firstNot hasSignal (a .args .text .now)) (a .args .room .now) (record { bytes = encoded (a .args .case) (a .args .text .now); ends = endsEncoded (a .args .case) (a .args .text .now) }) (c .if1 .taken))
 
 survey-requires : tie.Need-survey-requires
 survey-requires c κs = search needs
@@ -32,22 +36,24 @@ returns-2 : tie.Need-returns-2
 returns-2 c =
     let a = c .before .before .before .before .before .before .before .before in
     let k = c .before .before .found2 in
-    let m = needs-means (a .args .text .now) (a .args .case) (k .given .0 .0) (k .given .0 .1 .0) (sym (c .before .before .before .before .survey .ensures) ∙ k .given .1) in
-    no-room (a .args .text .now) (a .args .case) (a .args .room .now) (c .before .before .before .before .before .if1 .left) (m .2) (k .given .0 .0) (m .0) (c .if2 .taken)
+    let m = needs-means hasSignal encoded endsEncoded (a .args .text .now) (a .args .case) (k .given .0 .0) (k .given .0 .1 .0) (sym (c .before .before .before .before .survey .ensures) ∙ k .given .1) in
+    rw encoding-judged
+    (no-room 4096 5 1 (length (a .args .text .now)) (firstNot hasSignal (a .args .text .now)) (a .args .room .now) (record { bytes = encoded (a .args .case) (a .args .text .now); ends = endsEncoded (a .args .case) (a .args .text .now) }) (c .before .before .before .before .before .if1 .left) (m .2) (k .given .0 .0) (m .0) (c .if2 .taken))
 
 write-requires : tie.Need-write-requires
 write-requires c κs =
     let a = c .before .before .before .before .before .before .before .before .before in
     let k = c .before .before .before .found2 in
-    let m = needs-means (a .args .text .now) (a .args .case) (k .given .0 .0) (k .given .0 .1 .0) (sym (c .before .before .before .before .before .survey .ensures) ∙ k .given .1) in
+    let m = needs-means hasSignal encoded endsEncoded (a .args .text .now) (a .args .case) (k .given .0 .0) (k .given .0 .1 .0) (sym (c .before .before .before .before .before .survey .ensures) ∙ k .given .1) in
     omega (arith, m .0, c .before .if2 .left)
 
 returns-3 : tie.Need-returns-3
 returns-3 c =
     let a = c .before .before .before .before .before .before .before in
     let k = c .before .found in
-    let m = none-means (a .args .text .now) (a .args .case) (k .given .0 .0) (sym (c .before .before .before .survey .ensures) ∙ k .given .1) in
-    no-signal (a .args .text .now) (a .args .case) (a .args .room .now) (c .before .before .before .before .if1 .left) (k .given .0 .0) (m .0) (m .1)
+    let m = bad-means hasSignal encoded endsEncoded (a .args .text .now) (a .args .case) (k .given .0 .0) (sym (c .before .before .before .survey .ensures) ∙ k .given .1) in
+    rw encoding-judged
+    (bad-entry 4096 5 1 (length (a .args .text .now)) (firstNot hasSignal (a .args .text .now)) (a .args .room .now) (record { bytes = encoded (a .args .case) (a .args .text .now); ends = endsEncoded (a .args .case) (a .args .text .now) }) (c .before .before .before .before .if1 .left) (k .given .0 .0) (m .0) (m .1))
 
 same-length : tie.Need-same-length
 same-length c = search needs
@@ -56,17 +62,18 @@ returns-4 : tie.Need-returns-4
 returns-4 c =
     let a = c .before .before .before .before .before .before .before .before .before .before .before .before in
     let k = c .before .before .before .before .before .before .found2 in
-    let m = needs-means (a .args .text .now) (a .args .case) (k .given .0 .0) (k .given .0 .1 .0) (sym (c .before .before .before .before .before .before .before .before .survey .ensures) ∙ k .given .1) in
+    let m = needs-means hasSignal encoded endsEncoded (a .args .text .now) (a .args .case) (k .given .0 .0) (k .given .0 .1 .0) (sym (c .before .before .before .before .before .before .before .before .survey .ensures) ∙ k .given .1) in
     let fits = c .before .before .before .before .if2 .left in
     let w = c .before .before .write in
-    all-written (a .args .text .now) (a .args .case) (a .args .room .now) (c .before .before .before .before .before .before .before .before .before .if1 .left) (m .2)
+    rw encoding-judged
+    (all-written 4096 5 1 (length (a .args .text .now)) (firstNot hasSignal (a .args .text .now)) (a .args .room .now) (record { bytes = encoded (a .args .case) (a .args .text .now); ends = endsEncoded (a .args .case) (a .args .text .now) }) (c .before .before .before .before .before .before .before .before .before .if1 .left) (m .2)
     (w .result)
     (w .ensures .ended ∙ zero-add _)
     (omega (arith, w .ensures .ended, m .0))
     (k .given .0 .1 .0)
     (m .1)
     (w .last .1 .1 .0)
-    (w .ensures .holds ∙ sets-over (a .args .room .now) (encoded (a .args .case) (a .args .text .now)) (omega (arith, m .0)))
+    (w .ensures .holds ∙ sets-over (a .args .room .now) (encoded (a .args .case) (a .args .text .now)) (omega (arith, m .0))))
 
 pub encode-spec : {M : Type 1} → statement M
 encode-spec =

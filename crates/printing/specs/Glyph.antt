@@ -1,0 +1,30 @@
+-- The byte that a word prints in a case, read off the code's tables: its number, then that signal's row; 0 for no byte.
+-- Assumes nothing.
+use mathlib.Core.List.{List, [], _∷_}
+use Prim.Native.Nat.{ℕ, zero, suc}
+use lib.Dec.{eqb}
+use Rattle.laws.specs.Choice.{if_then_else_}
+use Rattle.signals.specs.declared.Case.{Case}
+use Rattle.signals.specs.declared.Case.the-variants.{Letters, Figures}
+use Rattle.signals.specs.declared.Row.{Row}
+use Rattle.signals.specs.Rows.{rowOf}
+use Rattle.signals.specs.Meaning.{meaningOf}
+use Rattle.text.specs.Printing.{errorMark}
+
+-- the row's column for a case
+abbrev pub column : Case → Row → ℕ
+column Letters r = r .1
+column Figures r = r .2
+
+-- by the signal's number
+abbrev pub glyphNo : Case → ℕ → ℕ
+glyphNo c zero = 0
+glyphNo c (suc n) = column c (rowOf n)
+
+unfoldable pub glyphOf : Case → ℕ → ℕ
+glyphOf c w = if eqb w errorMark then 42 else glyphNo c (meaningOf w)
+
+-- what is put for it
+abbrev pub putOf : ℕ → List ℕ
+putOf zero = []
+putOf (suc g) = suc g ∷ []

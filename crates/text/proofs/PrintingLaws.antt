@@ -1,0 +1,29 @@
+-- Printing is a walk, of at most one byte a signal, and answers in the order 7, 3, 2. Assumes nothing.
+use mathlib.Core.Path.{_≡_, refl}
+use mathlib.Core.Bool.{Bool, true, false}
+use mathlib.Core.List.{List, [], _∷_}
+use Prim.Native.Nat.{ℕ, _+_, _≤_}
+use native.Mathlib.Omega.{arith}
+use lib.Dec.{eqb}
+use lib.ListN.{length}
+use Rattle.laws.specs.Choice.{if_then_else_}
+use Rattle.signals.specs.declared.Case.{Case}
+use Rattle.signals.specs.Numbers.{Answer, firstNot}
+use Rattle.text.specs.Written.{Written}
+use Rattle.text.specs.Printing.{bytesOf, caseAt, printed, endsPrinted, mayPrint, printing}
+use Rattle.text.proofs.WalkLaws.{Walk}
+use Rattle.text.proofs.AnswerLaws.{judged}
+
+pub printed-walk : Walk printed endsPrinted bytesOf caseAt
+unfolding printed endsPrinted
+printed-walk =
+    record {
+      nil = λ c. refl;
+      cons = λ c w ws. refl;
+      ends-nil = λ c. refl;
+      ends-cons = λ c w ws. refl;
+    }
+
+pub printing-judged : (ws : List ℕ) (c : Case) (room : ℕ) → printing ws c room ≡ judged 8192 7 3 (length ws) (firstNot mayPrint ws) room (record { bytes = printed c ws; ends = endsPrinted c ws })
+unfolding printing
+printing-judged ws c room = refl
