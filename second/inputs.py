@@ -100,7 +100,8 @@ def written(draw, words):
     for word in words:
         zeros = draw.choice((0, 0, 0, 1, 2, 7)) if way == 4 else 0
         out.append(b"0" * zeros + b"%d" % word)
-        out.append(bytes(draw.choices((32, 9, 13, 10), k=draw.choice((1, 1, 2, 5)))))
+        between = draw.choice((1, 1, 2, 5))
+        out.append(bytes(draw.choices((32, 9, 13, 10), k=between)))
     return b"".join(out)
 
 
@@ -330,6 +331,16 @@ def heard_in_mode_b(draw, kind):
         elif kind == "phasing noise":
             words += draw.choices(
                 [ALPHA, RQ] * 3 + [LINE_FEED, CARRIAGE_RETURN, BETA, 0, 71], k=50)
+        elif kind == "ends":
+            # A lock, a few positions, an end in DX, and what a new search may
+            # or may not take for its four signals.
+            words += draw.choice(([RQ, ALPHA] * 2, [ALPHA, RQ] * 2 + [ALPHA]))
+            for _ in range(draw.randrange(4)):
+                words += draw.choices((LINE_FEED, CARRIAGE_RETURN, 71, RQ, 0), k=2)
+            words += [ALPHA, draw.choice((ALPHA, RQ, 71, 0)), ALPHA]
+            words += draw.choice(([], [ALPHA], [RQ], [0]))
+            words += ([RQ, ALPHA] * 3)[:draw.randrange(3, 6)]
+            words += draw.choices((LINE_FEED, 71, 86), k=draw.randrange(6))
         else:
             # A lock, and then pairs of words that settle each way.
             words += draw.choice(([RQ, ALPHA], [ALPHA, RQ])) * 2
@@ -340,7 +351,7 @@ def heard_in_mode_b(draw, kind):
 
 RECEIVE_KINDS = ("clean", "damaged", "other signals", "joined late", "cut short",
                  "slots slip", "noise between", "intact noise", "noise",
-                 "phasing noise", "settling")
+                 "phasing noise", "ends", "settling")
 
 
 def receive_cases(draw):

@@ -2,15 +2,13 @@
 -- Assumes nothing.
 use mathlib.Core.Path.{_≡_, refl, ap, sym, _∙_}
 use mathlib.Core.Bool.{Bool, true, false}
-use mathlib.Core.List.{List}
 use Prim.Native.Nat.{ℕ, zero, suc, _-_, _<_, _≤_}
 use native.Mathlib.Numerals.{sub-one}
 use lib.Dec.{T, eqb, leb, leb→le}
-use lib.ListN.{getD}
 use borrow.Author.Tests.{eq-eqb, ne-eqb}
 use Rattle.laws.specs.Choice.{if_then_else_}
 use Rattle.laws.proofs.Below.{at-below}
-use Rattle.laws.proofs.Table.{tabFrom, tab-at}
+use Rattle.laws.proofs.Table.{tabFrom, same-table}
 use Rattle.signals.specs.declared.Case.the-variants.{Letters, Figures}
 use Rattle.signals.specs.declared.Row.{Row}
 use Rattle.signals.specs.Rows.{rowOf}
@@ -34,10 +32,7 @@ same = refl
 
 module _ (x : ℕ) (byte : x < 256) where
   agrees : byNumber (holderOf x) x ≡ characterOf x
-  agrees =
-      sym (tab-at (λ x. byNumber (holderOf x) x) 256 Without x byte)
-      ∙ ap (λ (l : List Character). getD l x Without) same
-      ∙ tab-at characterOf 256 Without x byte
+  agrees = same-table (λ x. byNumber (holderOf x) x) characterOf 256 Without same x byte
 
   pub holder-le : holderOf x ≤ 35
   unfolding holderOf

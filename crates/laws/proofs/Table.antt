@@ -19,3 +19,7 @@ tab-from f d (suc n) i (suc k) h =
 
 pub tab-at {ℓ} : {A : Type ℓ} (f : ℕ → A) (n : ℕ) (d : A) (k : ℕ) → k < n → getD (tabFrom f n 0) k d ≡ f k
 tab-at f n d k h = tab-from f d n 0 k h ∙ ap f (zero-add k)
+
+-- two rules with the same table agree at each place
+pub same-table {ℓ} : {A : Type ℓ} (f g : ℕ → A) (n : ℕ) (d : A) → tabFrom f n 0 ≡ tabFrom g n 0 → (k : ℕ) → k < n → f k ≡ g k
+same-table f g n d e k h = sym (tab-at f n d k h) ∙ ap (λ l. getD l k d) e ∙ tab-at g n d k h

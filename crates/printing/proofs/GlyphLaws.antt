@@ -7,10 +7,10 @@ use Prim.Native.Nat.{ℕ, zero, suc, _-_, _<_, _≤_}
 use native.Mathlib.Numerals.{sub-one}
 use native.Mathlib.Omega.{arith}
 use lib.Dec.{eqb, leb}
-use lib.ListN.{length, getD}
+use lib.ListN.{length}
 use borrow.Author.Tests.{eq-eqb, ne-eqb, le-leb, lt-leb}
 use Rattle.laws.specs.Choice.{if_then_else_}
-use Rattle.laws.proofs.Table.{tabFrom, tab-at}
+use Rattle.laws.proofs.Table.{tabFrom, same-table}
 use Rattle.signals.specs.declared.Case.{Case}
 use Rattle.signals.specs.declared.Case.the-variants.{Letters, Figures}
 use Rattle.signals.specs.declared.Row.{Row}
@@ -25,10 +25,7 @@ same Letters = refl
 same Figures = refl
 
 pub glyph-prints : (c : Case) (w : ℕ) → w < 256 → putOf (glyphOf c w) ≡ bytesOf c w
-glyph-prints c w h =
-    sym (tab-at (λ w. putOf (glyphOf c w)) 256 [] w h)
-    ∙ ap (λ (l : List (List ℕ)). getD l w []) (same c)
-    ∙ tab-at (bytesOf c) 256 [] w h
+glyph-prints c w h = same-table (λ w. putOf (glyphOf c w)) (bytesOf c) 256 [] (same c) w h
 
 pub put-none : (g : ℕ) → g ≡ 0 → putOf g ≡ []
 put-none zero e = refl

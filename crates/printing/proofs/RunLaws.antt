@@ -15,19 +15,15 @@ use Rattle.signals.specs.declared.Case.{Case}
 use Rattle.signals.specs.declared.Case.the-variants.{Letters, Figures}
 use Rattle.signals.specs.Meaning.{letters, figures}
 use Rattle.text.specs.Printing.{bytesOf, caseAt, printed, endsPrinted}
+use Rattle.text.specs.Shifts.{shiftTo, other}
 use Rattle.text.proofs.WalkLaws.{all-next, all-end}
 use Rattle.text.proofs.PrintingLaws.{printed-walk}
 use Rattle.printing.specs.Glyph.{glyphOf, putOf}
 use Rattle.printing.proofs.GlyphLaws.{glyph-prints}
 
-abbrev pub other : Case → Case
-other Letters = Figures
-other Figures = Letters
-
 -- the shift that leaves a case
 abbrev pub leaving : Case → ℕ
-leaving Letters = figures
-leaving Figures = letters
+leaving c = shiftTo (other c)
 
 shift-prints : (c : Case) → bytesOf c (leaving c) ≡ []
 unfolding bytesOf

@@ -2,11 +2,13 @@
 -- holds. Encoding and printing differ in the limit and in two numbers alone.
 -- Assumes nothing.
 use mathlib.Core.Path.{_≡_, refl, ap, sym, _∙_}
+use mathlib.Core.Bool.{Bool, true, false}
 use mathlib.Core.List.{List}
 use Prim.Native.Nat.{ℕ, _<_, _≤_}
 use lib.Dec.{ltb}
 use lib.ListN.{length}
-use borrow.Author.Tests.{lt-ltb, le-ltb}
+use native.Mathlib.Omega.{arith}
+use borrow.Author.Tests.{lt-ltb, le-ltb, ltb-false}
 use Rattle.laws.specs.Choice.{if_then_else_}
 use Rattle.laws.specs.Room.{over}
 use Rattle.signals.specs.declared.Case.{Case}
@@ -41,3 +43,19 @@ module _ (limit long bad size first : ℕ) (room : List ℕ) (w : Written) where
       pub all-written : n ≤ length room → (d : Case) → d ≡ w .ends → (after : List ℕ) → after ≡ over (w .bytes) room → Promised (judged limit long bad size first (length room) w) room (answered (record { count = n; ends = d })) after
       all-written f d g after o =
           rw (e, g, o, le-ltb limit size a, le-ltb first size b, le-ltb (length room) (length (w .bytes)) (rw e at f)) (refl, refl)
+
+-- where it answered, no test refused
+module _ (limit long bad size first room : ℕ) (w t : Written) where
+  pub answered-means : judged limit long bad size first room w ≡ answered t → (size ≤ limit) × (size ≤ first) × (length (w .bytes) ≤ room) × (w ≡ t)
+  answered-means e = go (ltb limit size) (ltb first size) (ltb room (length (w .bytes))) refl refl refl e
+    where
+      go : (a b c : Bool) → ltb limit size ≡ a → ltb first size ≡ b → ltb room (length (w .bytes)) ≡ c → _≡_ {A = Answer Written} (if a then refused long limit else if b then refused bad first else if c then refused 2 (length (w .bytes)) else answered w) (answered t) → (size ≤ limit) × (size ≤ first) × (length (w .bytes) ≤ room) × (w ≡ t)
+      go true b c p q r e = let z : _≡_ {A = ℕ} 0 1 = cc in absurd (omega arith)
+      go false true c p q r e = let z : _≡_ {A = ℕ} 0 1 = cc in absurd (omega arith)
+      go false false true p q r e = let z : _≡_ {A = ℕ} 0 1 = cc in absurd (omega arith)
+      go false false false p q r e = (ltb-false limit size p, ltb-false first size q, ltb-false room (length (w .bytes)) r, cc)
+
+-- and where none refuses, it answers
+pub judged-answers : (limit long bad size first room : ℕ) (w : Written) → size ≤ limit → size ≤ first → length (w .bytes) ≤ room → judged limit long bad size first room w ≡ answered w
+judged-answers limit long bad size first room w a b c =
+    rw (le-ltb limit size a, le-ltb first size b, le-ltb room (length (w .bytes)) c)

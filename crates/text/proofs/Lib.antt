@@ -3,7 +3,15 @@
 --     AnswerLaws     the answer and the lent room, at each refusal and at success
 --     EncodingLaws   encoding is such a walk; how long it gets
 --     PrintingLaws   printing is such a walk
+--     CharacterLaws  what holds of every character: printing its signals gives it back
+--     ShiftLaws      a shift stands only where it is needed
+--     RoundTrip      printing an encoded text gives the text
+--     Unique         no second answer satisfies the promise of encode, or of print
 pub mod WalkLaws
 pub mod AnswerLaws
 pub mod EncodingLaws
 pub mod PrintingLaws
+pub mod CharacterLaws
+pub mod ShiftLaws
+pub mod RoundTrip
+pub mod Unique

@@ -3,7 +3,7 @@
 -- Assumes nothing.
 use mathlib.Core.Path.{_≡_, refl, ap, sym, _∙_}
 use mathlib.Core.Bool.{Bool, true, false}
-use mathlib.Core.List.{List, [], _∷_, _++_}
+use mathlib.Core.List.{List, [], _∷_, _++_, append-assoc}
 use Prim.Native.Nat.{ℕ, suc, _+_, _*_, _<_, _≤_}
 use native.Mathlib.Numerals.{add-one}
 use native.Mathlib.Omega.{arith}
@@ -29,6 +29,18 @@ module _ (all : Case → List ℕ → List ℕ) (ends : Case → List ℕ → Ca
 
   pub ends-end : (c : Case) (s : List ℕ) → ends c (drop (length s) s) ≡ c
   ends-end c s = rw drop-length (w .ends-nil c)
+
+  -- one list after the other
+  pub ends-append : (c : Case) (s t : List ℕ) → ends c (s ++ t) ≡ ends (ends c s) t
+  ends-append c [] t = rw (w .ends-nil c)
+  ends-append c (x ∷ xs) t = w .ends-cons c x (xs ++ t) ∙ ends-append (after c x) xs t ∙ rw (w .ends-cons c x xs)
+
+  pub all-append : (c : Case) (s t : List ℕ) → all c (s ++ t) ≡ all c s ++ all (ends c s) t
+  all-append c [] t = rw (w .nil c, w .ends-nil c)
+  all-append c (x ∷ xs) t =
+      w .cons c x (xs ++ t)
+      ∙ ap (λ (l : List ℕ). step c x ++ l) (all-append (after c x) xs t)
+      ∙ rw (w .cons c x xs, w .ends-cons c x xs) (sym (append-assoc (step c x) (all (after c x) xs) (all (ends (after c x) xs) t)))
 
   module _ (s : List ℕ) (i : ℕ) (h : i < length s) (c : Case) where
     pub all-next : all c (drop i s) ≡ step c (getD s i 0) ++ all (after c (getD s i 0)) (drop (i + 1) s)

@@ -2,8 +2,10 @@
 --     Written    what both calls answer: bytes written and the case they end in
 --     Encoding   characters to signals
 --     Printing   signals to characters
+--     Shifts     where a shift may stand in an encoded text
 --     Survey     beside the rules: the look that both calls take before they write
 pub mod Written
 pub mod Encoding
 pub mod Printing
+pub mod Shifts
 pub mod Survey
