@@ -52,7 +52,7 @@ def slots(text):
 
 
 def text_refusal(text):
-    # "Order: mode B slot 7, 3, 6": here 7 and 3.
+    # "Order: ... mode B slot 7, 3, 6": here 7 and 3.
     if len(text) > MOST_SIGNALS:
         return Refused(7, MOST_SIGNALS)
     for index, word in enumerate(text):
@@ -85,7 +85,7 @@ InPhase = namedtuple("InPhase", "number dx printing")
 SETTLED_PHASING = "phasing"
 SETTLED_ERROR = "error"
 
-NEEDED_RUN = 4
+MOST_RUN = 3                 # a fourth signal ends the search
 
 
 def fresh_receiver():
@@ -97,7 +97,8 @@ def hear_word(receiver, word):
     printed signal, 255 for an error".  Answers (receiver, printed), printed
     None for none, or Refused."""
     if isinstance(receiver, Searching):
-        if receiver.run >= NEEDED_RUN:
+        if receiver.run > MOST_RUN:
+            # "receiver with a search run over 3"
             return Refused(4, 0)
         return search(receiver, word), None
     if receiver.number % 2 == 0:
@@ -113,7 +114,7 @@ def search(receiver, word):
         run = receiver.run + 1
     else:
         run = 1
-    if run < NEEDED_RUN:
+    if run <= MOST_RUN:
         return Searching(run, word)
     # "RQ marks DX."  The fourth signal only ends the search.  It gets slot
     # number 6 if it is RQ and 7 if it is alpha, so that either way the two RQ

@@ -1,4 +1,8 @@
-"""The seven-unit code (paper 01, "The code"; paper 001, tables 1 and 2)."""
+"""The seven-unit code (paper 01, "The code"; paper 001, tables 1 and 2).
+
+In quotations from 01, here and in the other modules, the Greek letters are
+spelt out.
+"""
 
 # The 32 traffic signals in 01's order, which gives them the numbers 1 to 32.
 # Columns: what it prints in letters case, in figures case, its units with the

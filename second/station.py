@@ -64,7 +64,8 @@ def may_stand_in_block(word):
 
 
 def fresh_master():
-    """01: "A fresh master is Opening ... count 0, letters case and no + heard"."""
+    """01: "A fresh master is Opening", with "count 0, letters case and no +
+    heard"."""
     return Station(True, OPENING, 0, NO_BLOCK, 0, 0, "letters", False)
 
 
@@ -77,7 +78,7 @@ def fresh_slave():
 # --- Refusals 4 and 3, judged at every place and whatever is heard ---
 
 def refusal_of(station, offer):
-    # "Order: mode A step 4, 3"
+    # "Order: ... mode A step 4, 3"
     if station.count > MOST_COUNT:
         return Refused(4, 0)
     if station.place == ENDING and not 1 <= station.total <= MOST_ENDS:

@@ -99,7 +99,7 @@ RULE = {"letters": printed_in_letters, "figures": printed_in_figures}
 
 
 def print_signals(case, signals, room):
-    # "Order: printing 7, 3, 2"
+    # "Order: ... printing 7, 3, 2"
     if len(signals) > MOST_SIGNALS:
         return Refused(7, MOST_SIGNALS)
     for index, word in enumerate(signals):

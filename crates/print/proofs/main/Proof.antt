@@ -1,0 +1,72 @@
+-- `print::main` is safe and ends. Assumes nothing.
+use mathlib.Core.Path.{sym}
+use native.Mathlib.Omega.{arith}
+use lib.Seq.{length-take-le}
+use borrow.Author.Needs.{needs}
+use Rattle.print.proofs.main.Statement.{statement}
+use Rattle.print.proofs.main.Tie as tie
+use Rattle.print.proofs.main.Reads as reads
+use Rattle.print.proofs.main.Lts as lts
+use Rattle.filters.proofs.read_words.Reads as read-words-reads
+use Rattle.filters.proofs.tell_place.Reads as tell-place-reads
+use Rattle.print.proofs.tell.Reads as tell-reads
+use Rattle.printing.proofs.print.Reads as print-reads
+
+slice-aggregate-read-words : tie.Need-slice-aggregate-read-words
+slice-aggregate-read-words c = search needs
+
+read-words-requires : tie.Need-read-words-requires
+read-words-requires c κs = search needs
+
+slice-aggregate-tell-place : tie.Need-slice-aggregate-tell-place
+slice-aggregate-tell-place c = search needs
+
+tell-place-requires : tie.Need-tell-place-requires
+tell-place-requires c κs = search needs
+
+returns : tie.Need-returns
+returns c = search needs
+
+returns-2 : tie.Need-returns-2
+returns-2 c = search needs
+
+array-share-prefix-words : tie.Need-array-share-prefix-words
+array-share-prefix-words c = search needs
+
+slice-aggregate-print : tie.Need-slice-aggregate-print
+slice-aggregate-print c =
+    let r = c .before .before .before .before .read-words in
+    sym (length-take-le (r .result .count) (r .last .0) (omega (arith, r .kept .0, c .before .if2 .left)))
+
+slice-aggregate-print-2 : tie.Need-slice-aggregate-print-2
+slice-aggregate-print-2 c = search needs
+
+print-requires : tie.Need-print-requires
+print-requires c κs = search needs
+
+slice-aggregate-tell : tie.Need-slice-aggregate-tell
+slice-aggregate-tell c = search needs
+
+tell-requires : tie.Need-tell-requires
+tell-requires c κs = search needs
+
+returns-3 : tie.Need-returns-3
+returns-3 c = search needs
+
+pub main-spec : {M : Type 1} → statement M
+main-spec =
+    tie.close
+    (tie.spec
+    slice-aggregate-read-words
+    read-words-requires
+    slice-aggregate-tell-place
+    tell-place-requires
+    returns
+    returns-2
+    array-share-prefix-words
+    slice-aggregate-print
+    slice-aggregate-print-2
+    print-requires
+    slice-aggregate-tell
+    tell-requires
+    returns-3)
