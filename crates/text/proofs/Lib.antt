@@ -7,6 +7,7 @@
 --     ShiftLaws      a shift stands only where it is needed
 --     RoundTrip      printing an encoded text gives the text
 --     Unique         no second answer satisfies the promise of encode, or of print
+--     Refuted        wrong programs of another shape, told from the right one
 pub mod WalkLaws
 pub mod AnswerLaws
 pub mod EncodingLaws
@@ -15,3 +16,4 @@ pub mod CharacterLaws
 pub mod ShiftLaws
 pub mod RoundTrip
 pub mod Unique
+pub mod Refuted

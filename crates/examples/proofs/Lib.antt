@@ -1,0 +1,2 @@
+-- The examples of 01 that are marked P.
+mod Examples

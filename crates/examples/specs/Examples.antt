@@ -1,0 +1,12 @@
+-- 01, Worked examples: "Those marked P are proved, as a single statement over a list of them." Assumes nothing.
+use mathlib.Core.Bool.{Bool, true, _&&_}
+use mathlib.Core.List.{List, [], _∷_, _++_}
+use Rattle.examples.specs.Code.{codeExamples}
+use Rattle.examples.specs.Text.{textExamples}
+
+unfoldable pub examples : List Bool
+examples = codeExamples ++ textExamples
+
+unfoldable pub holds : List Bool → Bool
+holds [] = true
+holds (e ∷ es) = e && holds es

@@ -1,0 +1,50 @@
+-- Wrong programs that have another shape than the right one, so that no edit of the code makes them. Of each, an input at
+-- which what the promise says is not what it would do: computed, not argued.
+--     no-silent-encoder       an encoder that answers and writes nothing
+--     no-byte-on-a-refusal    an encoder that has written before it refuses
+--     no-order-1-5-2          refusals in another order: a byte without a signal told before the limit is looked at
+--     no-order-3-7-2          the same of printing
+--     no-touch-beyond         an encoder that clears the room beyond the part written
+--     no-trailing-shift       an encoder that goes back to letters at the end
+-- Assumes nothing.
+use mathlib.Core.Path.{_≡_, refl, ap, sym, _∙_}
+use mathlib.Core.List.{List, [], _∷_}
+use Prim.Native.Nat.{ℕ}
+use native.Mathlib.Omega.{arith}
+use lib.ListN.{length, replicate}
+use Rattle.laws.specs.Room.{over}
+use Rattle.signals.specs.declared.Case.the-variants.{Letters, Figures}
+use Rattle.signals.specs.Numbers.{Answer, answered, refused, firstNot}
+use Rattle.text.specs.declared.Encoded.{Encoded}
+use Rattle.text.specs.declared.Printed.{Printed}
+use Rattle.text.specs.Written.{Written, Counted, counted, leaves}
+use Rattle.text.specs.Encoding.{characterOf, encoded, endsEncoded, encoding, saidEncoded}
+use Rattle.text.specs.Printing.{printing, saidPrinted}
+use Rattle.text.proofs.Unique.{EncodePromised, PrintPromised}
+
+pub no-silent-encoder : EncodePromised (65 ∷ []) Letters (0 ∷ []) (Encoded.Written 0 Letters) (0 ∷ []) → ⊥
+unfolding encoding firstNot encoded endsEncoded characterOf
+no-silent-encoder p = let z : _≡_ {A = ℕ} 0 1 = cc (p .0) in omega arith
+
+-- "A1" with room for two: refused 2, and the room is as it was
+pub no-byte-on-a-refusal : EncodePromised (65 ∷ 49 ∷ []) Letters (0 ∷ 0 ∷ []) (Encoded.NoRoom 3) (71 ∷ 0 ∷ []) → ⊥
+unfolding encoding firstNot encoded endsEncoded characterOf
+no-byte-on-a-refusal p = let z : _≡_ {A = ℕ} 71 0 = cc (p .1) in omega arith
+
+-- 4,097 small letters
+pub no-order-1-5-2 : (room : List ℕ) → EncodePromised (replicate 4097 97) Letters room (Encoded.NoSignal 0) room → ⊥
+unfolding encoding
+no-order-1-5-2 room p = let z : _≡_ {A = ℕ} 1 5 = cc (p .0) in omega arith
+
+-- 8,193 times β
+pub no-order-3-7-2 : (room : List ℕ) → PrintPromised (replicate 8193 51) Letters room (Printed.BadWord 0) room → ⊥
+unfolding printing
+no-order-3-7-2 room p = let z : _≡_ {A = ℕ} 3 7 = cc (p .0) in omega arith
+
+pub no-touch-beyond : EncodePromised (65 ∷ []) Letters (170 ∷ 170 ∷ []) (Encoded.Written 1 Letters) (71 ∷ 0 ∷ []) → ⊥
+unfolding encoding firstNot encoded endsEncoded characterOf
+no-touch-beyond p = let z : _≡_ {A = ℕ} 0 170 = cc (p .1) in omega arith
+
+pub no-trailing-shift : EncodePromised (49 ∷ []) Letters (0 ∷ 0 ∷ 0 ∷ []) (Encoded.Written 3 Letters) (54 ∷ 46 ∷ 90 ∷ []) → ⊥
+unfolding encoding firstNot encoded endsEncoded characterOf
+no-trailing-shift p = let z : _≡_ {A = ℕ} 3 2 = cc (p .0) in omega arith
