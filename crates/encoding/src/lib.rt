@@ -3,8 +3,7 @@ ghost use mathlib.Core.Path.{_≡_};
 ghost use Prim.Native.Nat.{_+_, _≤_};
 ghost use lib.ListN.{length};
 ghost use Rattle.laws.specs.Room.{Wrote};
-ghost use Rattle.text.specs.Written.{counted, leaves};
-ghost use Rattle.text.specs.Encoding.{characterOf, isCharacter, hasSignal, shift, signalsFor, caseAfter, encoded, endsEncoded, encoding, saidEncoded};
+ghost use Rattle.text.specs.Encoding.{characterOf, isCharacter, hasSignal, shift, signalsFor, caseAfter, encoded, endsEncoded, Encodes};
 ghost use Rattle.text.specs.Survey.{surveyOf};
 ghost use Rattle.encoding.specs.Holder.{holderOf};
 use signals::Case;
@@ -424,10 +423,9 @@ fn write(text: &[u8], case: Case, room: &mut [u8]) -> usize
 }
 
 // Encodes `text`, which starts in `case`, into `room` (01, Text): answers how many signals were written and the case
-// after the last. Refuses 5, then 1, then 2 (01, Numbers returned), and then leaves the room as it was.
+// after the last. Refuses 5, then 1, then 2 (01, Numbers returned); a refusal leaves the room as it was.
 pub fn encode(text: &[u8], case: Case, room: &mut [u8]) -> Encoded
-    ensures answer { λ r. ⌜ saidEncoded r ≡ counted (encoding (now (text .entry)) case (length (now (room .entry)))) ⌝ }
-    ensures lent { λ r. ⌜ now (room .exit) ≡ leaves (encoding (now (text .entry)) case (length (now (room .entry)))) (now (room .entry)) ⌝ }
+    ensures { λ r. ⌜ Encodes (now (text .entry)) case (now (room .entry)) r (now (room .exit)) ⌝ }
 {
     if 4096 < text.len() {
         return Encoded::TooLong;

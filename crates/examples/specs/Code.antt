@@ -1,4 +1,5 @@
 -- 01, Worked examples: "P: 71 is A; 86 is E; 0, 127 and 199 are mutilated; α 15, β 51, RQ 102, CS1 101, CS2 106, CS3 89."
+-- R-140
 -- Assumes nothing.
 use mathlib.Core.Bool.{Bool, not, _&&_}
 use mathlib.Core.List.{List, [], _∷_}

@@ -1,4 +1,6 @@
--- 01, Worked examples: "Those marked P are proved, as a single statement over a list of them." Assumes nothing.
+-- 01, Worked examples: "Those marked P are proved, as a single statement over a list of them."  R-151. The list grows
+-- with the parts of 01 that are built.
+-- Assumes nothing.
 use mathlib.Core.Bool.{Bool, true, _&&_}
 use mathlib.Core.List.{List, [], _∷_, _++_}
 use Rattle.examples.specs.Code.{codeExamples}

@@ -1,4 +1,4 @@
--- 01, Worked examples: 'P, from letters: "A1" gives 71 54 46; "1 2" gives 54 46 92 39; "" gives none.'
+-- 01, Worked examples: 'P, from letters: "A1" gives 71 54 46; "1 2" gives 54 46 92 39; "" gives none.'  R-141
 -- Assumes nothing.
 use mathlib.Core.Bool.{Bool, true, false, _&&_}
 use mathlib.Core.List.{List, [], _∷_}

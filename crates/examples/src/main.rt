@@ -1,4 +1,4 @@
-// Runs 01's worked examples that are not proved, and writes what each gives; its file `stdout` has what 01 says.
+// Runs 01's worked examples that are not proved, and the limit of printing, and writes what each gives.
 use signals::Case;
 use text::Encoded;
 use text::Printed;

@@ -1,6 +1,8 @@
 // What the programs share (docs/FORMATS.md): numbers read from standard input and written to standard output, and refusals
 // told. No contract can speak of what a program reads or writes, so these functions are proved to be safe and to end, and
 // the programs are run and compared.
+ghost use Prim.Native.Nat.{_≤_};
+ghost use lib.ListN.{length};
 
 // A reader of decimal numbers, 0 to 255, between white space: the place of the next byte, and of the number that has begun
 // its first byte and its value so far.
@@ -31,7 +33,7 @@ fn is_white(byte: u8) -> bool {
 }
 
 // One further, up to a place that no input reaches.
-pub fn further(place: u64) -> u64 {
+fn further(place: u64) -> u64 {
     if place == u64::MAX {
         return place;
     }
@@ -39,7 +41,7 @@ pub fn further(place: u64) -> u64 {
 }
 
 impl Reader {
-    pub fn new() -> Self {
+    fn new() -> Self {
         Reader {
             place: 0,
             start: 0,
@@ -92,7 +94,7 @@ impl Reader {
         }
     }
 
-    pub fn take(self, byte: u8) -> Took {
+    fn take(self, byte: u8) -> Took {
         if is_white(byte) {
             let after = Reader::between(further(self.place));
             if self.begun {
@@ -122,7 +124,7 @@ impl Reader {
     }
 
     // What the end of the input brings.
-    pub fn end(self) -> Event {
+    fn end(self) -> Event {
         if self.begun {
             return Event::Word(self.value);
         }
@@ -141,7 +143,9 @@ pub struct Gathered {
 }
 
 impl Gathered {
-    fn new() -> Self {
+    fn new() -> Self
+        ensures { λ r. ⌜ r .count ≤ 0 ⌝ }
+    {
         Gathered {
             reader: Reader::new(),
             count: 0,
@@ -151,7 +155,9 @@ impl Gathered {
         }
     }
 
-    fn read_on(self, reader: Reader) -> Self {
+    fn read_on(self, reader: Reader) -> Self
+        ensures { λ r. ⌜ r .count ≤ self .count ⌝ }
+    {
         Gathered {
             reader: reader,
             count: self.count,
@@ -161,7 +167,9 @@ impl Gathered {
         }
     }
 
-    fn ended(self) -> Self {
+    fn ended(self) -> Self
+        ensures { λ r. ⌜ r .count ≤ self .count ⌝ }
+    {
         let reader = self.reader;
         Gathered {
             reader: reader,
@@ -172,7 +180,9 @@ impl Gathered {
         }
     }
 
-    fn stopped(self, place: u64) -> Self {
+    fn stopped(self, place: u64) -> Self
+        ensures { λ r. ⌜ r .count ≤ self .count ⌝ }
+    {
         let reader = self.reader;
         Gathered {
             reader: reader,
@@ -184,7 +194,10 @@ impl Gathered {
     }
 
     // The word put into the room; where that fills it, no more are read.
-    fn put(self, word: u8, room: &mut [u8]) -> Self {
+    fn put(self, word: u8, room: &mut [u8]) -> Self
+        requires { ⌜ self .count ≤ length (now room) ⌝ }
+        ensures { λ r. ⌜ r .count ≤ length (now (room .exit)) ⌝ }
+    {
         let reader = self.reader;
         let count = self.count;
         if room.len() <= count {
@@ -200,7 +213,10 @@ impl Gathered {
         }
     }
 
-    fn hear(self, event: Event, room: &mut [u8]) -> Self {
+    fn hear(self, event: Event, room: &mut [u8]) -> Self
+        requires { ⌜ self .count ≤ length (now room) ⌝ }
+        ensures { λ r. ⌜ r .count ≤ length (now (room .exit)) ⌝ }
+    {
         match event {
             Event::Nothing => self,
             Event::Word(word) => self.put(word, room),
@@ -208,7 +224,10 @@ impl Gathered {
         }
     }
 
-    fn take(self, byte: u8, room: &mut [u8]) -> Self {
+    fn take(self, byte: u8, room: &mut [u8]) -> Self
+        requires { ⌜ self .count ≤ length (now room) ⌝ }
+        ensures { λ r. ⌜ r .count ≤ length (now (room .exit)) ⌝ }
+    {
         if self.done {
             return self;
         }
@@ -219,7 +238,10 @@ impl Gathered {
         self.read_on(next).hear(event, room)
     }
 
-    fn take_all(self, bytes: &[u8], room: &mut [u8]) -> Self {
+    fn take_all(self, bytes: &[u8], room: &mut [u8]) -> Self
+        requires { ⌜ self .count ≤ length (now room) ⌝ }
+        ensures { λ r. ⌜ r .count ≤ length (now (room .exit)) ⌝ }
+    {
         let mut gathered = self;
         let mut i = 0;
         while i < bytes.len() {
@@ -230,7 +252,10 @@ impl Gathered {
     }
 
     // Reads once more from standard input.
-    fn read_some(self, room: &mut [u8]) -> Self {
+    fn read_some(self, room: &mut [u8]) -> Self
+        requires { ⌜ self .count ≤ length (now room) ⌝ }
+        ensures { λ r. ⌜ r .count ≤ length (now (room .exit)) ⌝ }
+    {
         let mut buffer = [0u8; 4096];
         let got = libc::read(0, &mut buffer);
         let n = io::count(got, &buffer);
@@ -243,7 +268,9 @@ impl Gathered {
 }
 
 // Reads numbers from standard input until the room is full, the input ends, or something is no number.
-pub fn read_words(room: &mut [u8]) -> Gathered {
+pub fn read_words(room: &mut [u8]) -> Gathered
+    ensures { λ r. ⌜ r .count ≤ length (now (room .exit)) ⌝ }
+{
     let mut gathered = Gathered::new();
     let mut turns = u64::MAX;
     while turns > 0 {
@@ -257,7 +284,7 @@ pub fn read_words(room: &mut [u8]) -> Gathered {
 }
 
 // Writes one word, sixteen to a line; `column` words stand on the line already. Answers the column after it.
-pub fn write_word(column: usize, word: u8) -> usize {
+fn write_word(column: usize, word: u8) -> usize {
     if column != 0 {
         io::write_all(1, b" ");
     }
@@ -270,7 +297,7 @@ pub fn write_word(column: usize, word: u8) -> usize {
 }
 
 // Ends a line that has been begun.
-pub fn end_line(column: usize) {
+fn end_line(column: usize) {
     if column != 0 {
         io::write_all(1, b"\n");
     }

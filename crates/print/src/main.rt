@@ -24,9 +24,6 @@ fn main() {
         return;
     }
     let count = read.count;
-    if words.len() < count {
-        return;
-    }
     let mut room = [0u8; 8192];
     let answer = printing::print(&words[..count], Case::Letters, &mut room);
     tell(answer, &room);

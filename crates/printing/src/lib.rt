@@ -4,8 +4,7 @@ ghost use Prim.Native.Nat.{_+_, _≤_};
 ghost use lib.ListN.{length, drop};
 ghost use Rattle.laws.specs.Room.{Wrote};
 ghost use Rattle.signals.specs.declared.Case.the-variants.{Letters, Figures};
-ghost use Rattle.text.specs.Written.{counted, leaves};
-ghost use Rattle.text.specs.Printing.{mayPrint, caseAt, printed, endsPrinted, printing, saidPrinted};
+ghost use Rattle.text.specs.Printing.{mayPrint, caseAt, printed, endsPrinted, Prints};
 ghost use Rattle.text.specs.Survey.{surveyOf};
 ghost use Rattle.printing.specs.Glyph.{glyphOf, putOf};
 use signals::Case;
@@ -148,10 +147,9 @@ fn write(words: &[u8], case: Case, room: &mut [u8]) -> usize
 }
 
 // Prints `words`, which start in `case`, into `room` (01, Text): answers how many bytes were written and the case after
-// the last signal. Refuses 7, then 3, then 2 (01, Numbers returned), and then leaves the room as it was.
+// the last signal. Refuses 7, then 3, then 2 (01, Numbers returned); a refusal leaves the room as it was.
 pub fn print(words: &[u8], case: Case, room: &mut [u8]) -> Printed
-    ensures answer { λ r. ⌜ saidPrinted r ≡ counted (printing (now (words .entry)) case (length (now (room .entry)))) ⌝ }
-    ensures lent { λ r. ⌜ now (room .exit) ≡ leaves (printing (now (words .entry)) case (length (now (room .entry)))) (now (room .entry)) ⌝ }
+    ensures { λ r. ⌜ Prints (now (words .entry)) case (now (room .entry)) r (now (room .exit)) ⌝ }
 {
     if 8192 < words.len() {
         return Printed::TooLong;

@@ -27,7 +27,7 @@ module _ (w : ℕ) (byte : w < 256) where
   unfolding right intactOf onesOf meaningOf
   passes = at-below right 256 tt w byte
 
-  -- "A word is intact .." exactly when it has a meaning  R-016
+  -- "There are 35 intact words and all have a meaning": a byte is intact exactly where it has one  R-016
   pub intact-means : intactOf w ≡ leb 1 (meaningOf w)
   unfolding right
   intact-means = beq→eq _ _ (both-left (Bool·beq (intactOf w) (leb 1 (meaningOf w))) _ passes)

@@ -1,4 +1,4 @@
--- 01, The code: what a word means.  R-019 to R-025
+-- 01, The code: what a word means.  R-019 to R-021, R-023 to R-025
 -- Assumes nothing.
 use mathlib.Core.Bool.{Bool, _&&_}
 use mathlib.Core.List.{List, [], _∷_}
@@ -12,7 +12,7 @@ abbrev pub numberIn : List Signal → ℕ → ℕ → ℕ
 numberIn [] n w = 0
 numberIn (s ∷ ss) n w = if eqb w (wordOf s) then n else numberIn ss (suc n) w
 
--- "the signal's number (1 to 32 in the order above, α 33, β 34, RQ 35) or 0 for mutilated"  R-024, R-025
+-- "the signal's number (1 to 32 in the order above, α 33, β 34, RQ 35) or 0 for mutilated"  R-024, R-025, R-158, R-173
 unfoldable pub meaningOf : ℕ → ℕ
 meaningOf w = numberIn signals 1 w
 

@@ -1,6 +1,6 @@
--- The code's table, beside the 35 signals: a signal's row has its word and the byte that it prints in each case.
+-- The code's table, beside the 35 signals: a signal's row has its word and the byte that it prints in each case.  R-162
 --
--- 0 stands for no byte, which is no character's. A letter without a figure prints 35 (01, Text; R-035).
+-- 0 stands for no byte; no character is the byte 0. A letter without a figure prints 35 (01, Text; R-035).
 -- Assumes nothing.
 use mathlib.Core.List.{List, map}
 use Prim.Native.Nat.{ℕ}

@@ -1,11 +1,11 @@
--- 01, The code (001, tables 1 and 2): the 35 signals, a line each.  R-016 to R-020
+-- 01, The code (001, tables 1 and 2): the 35 signals, a line each.  R-016, R-017, R-018, R-019, R-020
 --
--- Letters and figures stand as bytes. The units are 001's, first sent on the left. The kinds of signal:
+-- Letters and figures stand as bytes. The units are those of 01's list, first sent on the left, and 001's wherever our copy of it
+-- is legible (docs/DECISIONS.md, The code tables). The kinds of signal:
 --     pair   a letter and, in figures case, a figure
 --     lone   a letter that has no figure: F, G and H (001, table 1, note 5)
 --     free   a character that is the same in either case
---     mute   a signal that prints no byte: the shifts, blank, and the three service signals
--- Where 001's copy of table 1 is damaged, the units are those of 01's list.
+--     mute   a signal that prints no byte: the shifts and blank; and the three service signals, which are never printed
 -- Assumes nothing.
 use mathlib.Core.List.{List, [], _∷_}
 use Prim.Native.Nat.{ℕ}

@@ -25,6 +25,6 @@ unit w k = w / 2 ^ k % 2
 unfoldable pub onesOf : ℕ → ℕ
 onesOf w = unit w 0 + unit w 1 + unit w 2 + unit w 3 + unit w 4 + unit w 5 + unit w 6
 
--- "A word is intact when it is below 128 and has exactly four ones; otherwise it is mutilated."  R-014, R-015
+-- "A word is intact when it is below 128 and has exactly four ones; otherwise it is mutilated."  R-014, R-015, R-159
 unfoldable pub intactOf : ℕ → Bool
 intactOf w = ltb w 128 && eqb (onesOf w) 4

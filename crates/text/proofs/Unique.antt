@@ -1,19 +1,19 @@
--- No second answer: what the promises of `encode` and `print` say leaves one answer, and one content of the lent room.
+-- No second answer: the promises of `encode` and `print`, as their contracts cite them, leave one answer and one content of
+-- the lent room.
 -- Assumes nothing.
 use mathlib.Core.Path.{_≡_, refl, ap, sym, _∙_}
 use mathlib.Core.List.{List}
 use Prim.Native.Nat.{ℕ}
 use lib.Dec.{eqb}
-use lib.ListN.{length}
 use Rattle.laws.specs.Choice.{if_then_else_}
 use Rattle.laws.proofs.Unique.{unique, unique-by}
 use Rattle.signals.specs.declared.Case.{Case}
 use Rattle.signals.specs.Numbers.{Answer, answered, refused}
 use Rattle.text.specs.declared.Encoded.{Encoded}
 use Rattle.text.specs.declared.Printed.{Printed}
-use Rattle.text.specs.Written.{Counted, counted, leaves}
-use Rattle.text.specs.Encoding.{encoding, saidEncoded}
-use Rattle.text.specs.Printing.{printing, saidPrinted}
+use Rattle.text.specs.Written.{Counted}
+use Rattle.text.specs.Encoding.{saidEncoded, Encodes}
+use Rattle.text.specs.Printing.{saidPrinted, Prints}
 
 -- the answer, read back from 01's number and value
 abbrev encodedFrom : Answer Counted → Encoded
@@ -36,19 +36,10 @@ printed-back Printed.TooLong = refl
 printed-back (Printed.BadWord i) = refl
 printed-back (Printed.NoRoom n) = refl
 
--- r is the answer of a call and `after` the lent room afterwards, as the call's two `ensures` say it
-abbrev pub EncodePromised : List ℕ → Case → List ℕ → Encoded → List ℕ → Type 0
-EncodePromised text c room r after =
-    (saidEncoded r ≡ counted (encoding text c (length room))) × (after ≡ leaves (encoding text c (length room)) room)
-
-abbrev pub PrintPromised : List ℕ → Case → List ℕ → Printed → List ℕ → Type 0
-PrintPromised ws c room r after =
-    (saidPrinted r ≡ counted (printing ws c (length room))) × (after ≡ leaves (printing ws c (length room)) room)
-
-pub encode-unique : (text : List ℕ) (c : Case) (room : List ℕ) (r r′ : Encoded) (after after′ : List ℕ) → EncodePromised text c room r after → EncodePromised text c room r′ after′ → (r ≡ r′) × (after ≡ after′)
+pub encode-unique : (text : List ℕ) (c : Case) (room : List ℕ) (r r′ : Encoded) (after after′ : List ℕ) → Encodes text c room r after → Encodes text c room r′ after′ → (r ≡ r′) × (after ≡ after′)
 encode-unique text c room r r′ after after′ p q =
     (unique-by saidEncoded encodedFrom encoded-back (p .0) (q .0), unique (p .1) (q .1))
 
-pub print-unique : (ws : List ℕ) (c : Case) (room : List ℕ) (r r′ : Printed) (after after′ : List ℕ) → PrintPromised ws c room r after → PrintPromised ws c room r′ after′ → (r ≡ r′) × (after ≡ after′)
+pub print-unique : (ws : List ℕ) (c : Case) (room : List ℕ) (r r′ : Printed) (after after′ : List ℕ) → Prints ws c room r after → Prints ws c room r′ after′ → (r ≡ r′) × (after ≡ after′)
 print-unique ws c room r r′ after after′ p q =
     (unique-by saidPrinted printedFrom printed-back (p .0) (q .0), unique (p .1) (q .1))

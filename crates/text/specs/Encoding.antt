@@ -1,5 +1,6 @@
 -- 01, Text: characters to signals.  R-026 to R-031, R-038
 -- Assumes nothing.
+use mathlib.Core.Path.{_≡_}
 use mathlib.Core.Bool.{Bool, true, false}
 use mathlib.Core.List.{List, [], _∷_, _++_}
 use Prim.Native.Nat.{ℕ}
@@ -14,7 +15,7 @@ use Rattle.signals.specs.Numbers.{Answer, answered, refused, firstNot}
 use Rattle.text.specs.declared.Character.{Character}
 use Rattle.text.specs.declared.Character.the-variants.{Without, Either, Needing}
 use Rattle.text.specs.declared.Encoded.{Encoded}
-use Rattle.text.specs.Written.{Written, Counted}
+use Rattle.text.specs.Written.{Written, Counted, counted, leaves}
 
 -- "Capitals, the figures above, 13, 10, 32, 5 (who are you) and 7 (bell) have signals; no other byte does."  R-027, R-028
 -- "return, line feed and space need none"  R-031. Of the kinds of signal only `free` is the same in either case.
@@ -66,10 +67,10 @@ isCharacter (Needing d w) = true
 abbrev pub hasSignal : ℕ → Bool
 hasSignal x = isCharacter (characterOf x)
 
--- 01, Numbers returned, for encoding. "Order: encoding 5, 1, 2"
---     5   "encoding: over 4,096 characters"            "4,096"
---     1   "encoding: a byte without a signal"          "index of the first"
---     2   "encoding, printing: lent room too short"    "room needed"
+-- 01, Numbers returned, for encoding. "Order: encoding 5, 1, 2"  R-134, R-135
+--     5   "encoding: over 4,096 characters"            "4,096"                  R-131
+--     1   "encoding: a byte without a signal"          "index of the first"     R-126
+--     2   "encoding, printing: lent room too short"    "room needed"            R-127
 unfoldable pub encoding : List ℕ → Case → ℕ → Answer Written
 encoding text c room =
     if ltb 4096 (length text) then refused 5 4096
@@ -77,9 +78,14 @@ encoding text c room =
     else if ltb room (length (encoded c text)) then refused 2 (length (encoded c text))
     else answered (record { bytes = encoded c text; ends = endsEncoded c text })
 
--- each case of the answer, by 01's number and the value beside it
+-- each case of the answer, by 01's number and the value beside it  R-167
 abbrev pub saidEncoded : Encoded → Answer Counted
 saidEncoded (Encoded.Written n c) = answered (record { count = n; ends = c })
 saidEncoded Encoded.TooLong = refused 5 4096
 saidEncoded (Encoded.NoSignal i) = refused 1 i
 saidEncoded (Encoded.NoRoom n) = refused 2 n
+
+-- The promise of `encode`: r is the answer, and `after` the lent room afterwards.  R-168
+abbrev pub Encodes : List ℕ → Case → List ℕ → Encoded → List ℕ → Type 0
+Encodes text c room r after =
+    (saidEncoded r ≡ counted (encoding text c (length room))) × (after ≡ leaves (encoding text c (length room)) room)

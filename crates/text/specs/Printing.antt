@@ -1,5 +1,6 @@
 -- 01, Text: signals to characters.  R-032 to R-036, R-038
 -- Assumes nothing.
+use mathlib.Core.Path.{_≡_}
 use mathlib.Core.Bool.{Bool, _||_}
 use mathlib.Core.List.{List, [], _∷_, _++_}
 use Prim.Native.Nat.{ℕ}
@@ -12,10 +13,11 @@ use Rattle.signals.specs.Signals.{Signal, pair, lone, free, mute, signals, word
 use Rattle.signals.specs.Meaning.{trafficOf, letters, figures}
 use Rattle.signals.specs.Numbers.{Answer, answered, refused, firstNot}
 use Rattle.text.specs.declared.Printed.{Printed}
-use Rattle.text.specs.Written.{Written, Counted}
+use Rattle.text.specs.Written.{Written, Counted, counted, leaves}
 
 -- "one rule for letters case, one for figures case"  R-033
--- "Shifts and blank print no byte. F, G, H in figures print 35."  R-034, R-035
+-- "Shifts and blank print no byte. F, G, H in figures print 35."  R-034, R-035. (The service signals are mute too, but none
+-- may stand in a list that is printed: refusal 3.)
 abbrev pub prints : Case → Signal → List ℕ
 prints Letters (pair w l f) = l ∷ []
 prints Letters (lone w l) = l ∷ []
@@ -56,10 +58,10 @@ endsPrinted c (w ∷ ws) = endsPrinted (caseAt c w) ws
 unfoldable pub mayPrint : ℕ → Bool
 mayPrint w = trafficOf w || eqb w errorMark
 
--- 01, Numbers returned, for printing. "printing 7, 3, 2"
---     7   "over 8,192 signals for mode B or printing"           "8,192"
---     3   "a word that may not stand there"                     "index of the first"
---     2   "encoding, printing: lent room too short"             "room needed"
+-- 01, Numbers returned, for printing. "printing 7, 3, 2"  R-134, R-135
+--     7   "over 8,192 signals for mode B or printing"           "8,192"                 R-133
+--     3   "a word that may not stand there"                     "index of the first"    R-128
+--     2   "encoding, printing: lent room too short"             "room needed"           R-127
 unfoldable pub printing : List ℕ → Case → ℕ → Answer Written
 printing ws c room =
     if ltb 8192 (length ws) then refused 7 8192
@@ -67,9 +69,14 @@ printing ws c room =
     else if ltb room (length (printed c ws)) then refused 2 (length (printed c ws))
     else answered (record { bytes = printed c ws; ends = endsPrinted c ws })
 
--- each case of the answer, by 01's number and the value beside it
+-- each case of the answer, by 01's number and the value beside it  R-167
 abbrev pub saidPrinted : Printed → Answer Counted
 saidPrinted (Printed.Written n c) = answered (record { count = n; ends = c })
 saidPrinted Printed.TooLong = refused 7 8192
 saidPrinted (Printed.BadWord i) = refused 3 i
 saidPrinted (Printed.NoRoom n) = refused 2 n
+
+-- The promise of `print`: r is the answer, and `after` the lent room afterwards.  R-168
+abbrev pub Prints : List ℕ → Case → List ℕ → Printed → List ℕ → Type 0
+Prints ws c room r after =
+    (saidPrinted r ≡ counted (printing ws c (length room))) × (after ≡ leaves (printing ws c (length room)) room)

@@ -1,6 +1,6 @@
 -- 01, Text: "Both answer how many bytes they wrote and the case they end in."  R-038
 -- 01, Numbers returned: "A refusal prints and sends nothing, writes nothing into lent memory .. On success, room beyond
--- the part written is untouched."
+-- the part written is untouched."  R-136, R-137, R-139
 -- Assumes nothing.
 use mathlib.Core.List.{List}
 use Prim.Native.Nat.{ℕ}

@@ -1,12 +1,13 @@
 -- `read_words` is safe and ends. Assumes nothing.
 use mathlib.Core.Path.{_≡_}
 use lib.ListN.{length}
+use Prim.Native.Nat.{_≤_}
 use borrow.Author.Needs.{needs}
 use Rattle.filters.proofs.read_words.Statement.{statement}
 use Rattle.filters.proofs.read_words.Tie as tie
 
 abbrev Inv-loop : tie.InvT-loop
-Inv-loop room₀ gathered₀ turns₀ room gathered turns = length room ≡ length room₀
+Inv-loop room₀ gathered₀ turns₀ room gathered turns = (length room ≡ length room₀) × (gathered .count ≤ length room)
 
 abbrev μ-loop : tie.MeasureT-loop
 μ-loop room₀ gathered₀ turns₀ room gathered turns = turns

@@ -1,6 +1,5 @@
 -- `print::main` is safe and ends. Assumes nothing.
 use mathlib.Core.Path.{sym}
-use native.Mathlib.Omega.{arith}
 use lib.Seq.{length-take-le}
 use borrow.Author.Needs.{needs}
 use Rattle.print.proofs.main.Statement.{statement}
@@ -27,16 +26,13 @@ tell-place-requires c κs = search needs
 returns : tie.Need-returns
 returns c = search needs
 
-returns-2 : tie.Need-returns-2
-returns-2 c = search needs
-
 array-share-prefix-words : tie.Need-array-share-prefix-words
 array-share-prefix-words c = search needs
 
 slice-aggregate-print : tie.Need-slice-aggregate-print
 slice-aggregate-print c =
-    let r = c .before .before .before .before .read-words in
-    sym (length-take-le (r .result .count) (r .last .0) (omega (arith, r .kept .0, c .before .if2 .left)))
+    let r = c .before .before .before .read-words in
+    sym (length-take-le (r .result .count) (r .last .0) (r .ensures))
 
 slice-aggregate-print-2 : tie.Need-slice-aggregate-print-2
 slice-aggregate-print-2 c = search needs
@@ -50,8 +46,8 @@ slice-aggregate-tell c = search needs
 tell-requires : tie.Need-tell-requires
 tell-requires c κs = search needs
 
-returns-3 : tie.Need-returns-3
-returns-3 c = search needs
+returns-2 : tie.Need-returns-2
+returns-2 c = search needs
 
 pub main-spec : {M : Type 1} → statement M
 main-spec =
@@ -62,11 +58,10 @@ main-spec =
     slice-aggregate-tell-place
     tell-place-requires
     returns
-    returns-2
     array-share-prefix-words
     slice-aggregate-print
     slice-aggregate-print-2
     print-requires
     slice-aggregate-tell
     tell-requires
-    returns-3)
+    returns-2)

@@ -7,7 +7,7 @@ use Rattle.filters.proofs.Gathered.take_all.Statement.{statement}
 use Rattle.filters.proofs.Gathered.take_all.Tie as tie
 
 abbrev Inv-loop : tie.InvT-loop
-Inv-loop bytes room₀ gathered₀ i₀ room gathered i = (i ≤ length bytes) × (length room ≡ length room₀)
+Inv-loop bytes room₀ gathered₀ i₀ room gathered i = (i ≤ length bytes) × (length room ≡ length room₀) × (gathered .count ≤ length room)
 
 abbrev μ-loop : tie.MeasureT-loop
 μ-loop bytes room₀ gathered₀ i₀ room gathered i = length bytes - i

@@ -1,0 +1,53 @@
+-- What the rows ask of a burst: its first word, and what its three words are together. Any byte may be heard.
+--
+-- Whether a word is a control signal or traffic is told by the place that hears it (R-022): Sending, Opening and Ending read
+-- the first word only and ask what it is as a control signal, whatever follows it; Receiving asks for a block.
+-- Assumes nothing.
+use mathlib.Core.Bool.{Bool, _&&_, _||_}
+use Prim.Native.Nat.{ℕ}
+use lib.Dec.{eqb}
+use Rattle.laws.specs.Choice.{if_then_else_}
+use Rattle.signals.specs.Meaning.{trafficOf, alpha, beta, rq, cs1, cs2, cs3}
+use Rattle.mode_a.specs.declared.Number.{Number}
+use Rattle.mode_a.specs.declared.Number.the-variants.{One, Two}
+use Rattle.mode_a.specs.declared.Words.{Words}
+use Rattle.mode_a.specs.Station.{βαβ, ααα, RQ×3}
+
+-- the first word: the control signal of a number, CS3, RQ, or any other byte
+pub data First : Type 0 where
+  Cs : Number → First
+  Cs3 : First
+  Rq : First
+  Else : First
+
+unfoldable pub firstOf : ℕ → First
+firstOf w =
+    if eqb w cs1 then Cs One else if eqb w cs2 then Cs Two else if eqb w cs3 then Cs3 else if eqb w rq then Rq else Else
+
+-- "traffic or β": what may stand in a block
+unfoldable pub mayHold : ℕ → Bool
+mayHold w = trafficOf w || eqb w beta
+
+-- "Three intact words, each traffic or β". A traffic signal and β are intact words.
+unfoldable pub isBlock : Words → Bool
+isBlock b = mayHold (b .0) && (mayHold (b .1) && mayHold (b .2))
+
+unfoldable pub isWords : Words → Words → Bool
+isWords b w = eqb (b .0) (w .0) && (eqb (b .1) (w .1) && eqb (b .2) (w .2))
+
+pub record Heard : Type 0 where
+  pub first : First
+  pub block : Bool
+  pub RQs : Bool
+  pub alphas : Bool
+  pub turned : Bool
+
+unfoldable pub heardOf : Words → Heard
+heardOf b =
+    record {
+      first = firstOf (b .0);
+      block = isBlock b;
+      RQs = isWords b RQ×3;
+      alphas = isWords b ααα;
+      turned = isWords b βαβ;
+    }

@@ -1,0 +1,47 @@
+-- 01, The station: the case of a direction, and the over.  R-086 to R-091
+--
+-- "The over is heard when ? follows + in figures case with only β between, within a block or across blocks; any other signal
+-- between cancels it". A shift is such another signal, also one to figures. ? is the figure of B, + of Z; in letters case they
+-- are letters and no part of an over.
+-- Assumes nothing.
+use mathlib.Core.Bool.{Bool, true, false, _||_}
+use Prim.Native.Nat.{ℕ}
+use lib.Dec.{eqb}
+use Rattle.laws.specs.Choice.{if_then_else_}
+use Rattle.signals.specs.declared.Case.{Case}
+use Rattle.signals.specs.declared.Case.the-variants.{Letters, Figures}
+use Rattle.signals.specs.Meaning.{wordNo, letters, figures, beta}
+use Rattle.mode_a.specs.declared.Words.{Words}
+
+-- the words of ? and of +
+abbrev pub query : ℕ
+query = wordNo 2
+
+abbrev pub cross : ℕ
+cross = wordNo 26
+
+-- what is kept of the signals of accepted blocks: the case, whether a + was heard that only β has followed, and whether the
+-- over was heard in this block
+pub record Listening : Type 0 where
+  pub case : Case
+  pub plus : Bool
+  pub over : Bool
+
+-- one signal that is neither β nor a shift, in the case in force
+abbrev pub signalIn : Case → Bool → Bool → ℕ → Listening
+signalIn Letters plus over w = record { case = Letters; plus = false; over = over }
+signalIn Figures plus over w =
+    if eqb w cross then record { case = Figures; plus = true; over = over }
+    else if eqb w query then record { case = Figures; plus = false; over = over || plus }
+    else record { case = Figures; plus = false; over = over }
+
+unfoldable pub listened : Listening → ℕ → Listening
+listened l w =
+    if eqb w beta then l
+    else if eqb w letters then record { case = Letters; plus = false; over = l .over }
+    else if eqb w figures then record { case = Figures; plus = false; over = l .over }
+    else signalIn (l .case) (l .plus) (l .over) w
+
+-- a block, from what the station has kept
+abbrev pub listenedAll : Case → Bool → Words → Listening
+listenedAll c p b = listened (listened (listened (record { case = c; plus = p; over = false }) (b .0)) (b .1)) (b .2)

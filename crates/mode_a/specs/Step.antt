@@ -1,0 +1,142 @@
+-- 01, The station: "One step: hear a burst, take an offer, answer with the new station, a burst to send, up to three printed
+-- signals, and whether the offer was taken."  R-039, R-040
+-- Assumes nothing.
+use mathlib.Core.Bool.{Bool, true, false, not, _&&_}
+use mathlib.Core.List.{List, [], _∷_}
+use Prim.Native.Nat.{ℕ, _+_}
+use lib.Dec.{eqb, leb, ltb}
+use lib.ListN.{length, getD}
+use Rattle.laws.specs.Choice.{if_then_else_}
+use Rattle.signals.specs.declared.Case.{Case}
+use Rattle.signals.specs.Meaning.{alpha, beta, cs3, figures}
+use Rattle.signals.specs.Numbers.{Answer, answered, refused, firstNot}
+use Rattle.mode_a.specs.declared.Number.{Number}
+use Rattle.mode_a.specs.declared.Words.{Words}
+use Rattle.mode_a.specs.declared.Place.{Place}
+use Rattle.mode_a.specs.declared.Place.the-variants.{Sending, Turning, Opening, Ending, Receiving, Asking, StandBy, Lost}
+use Rattle.mode_a.specs.declared.Offer.{Offer}
+use Rattle.mode_a.specs.declared.Station.{Station}
+use Rattle.mode_a.specs.declared.Doing.{Doing}
+use Rattle.mode_a.specs.declared.Doing.the-variants.{Repeats, Goes, Takes, Receives, Opens, Accepts}
+use Rattle.mode_a.specs.declared.Reply.{Reply}
+use Rattle.mode_a.specs.declared.Stepped.{Stepped}
+use Rattle.mode_a.specs.Station.{words, listOf, single, silence, ααα, other, asksFor}
+use Rattle.mode_a.specs.Heard.{mayHold, heardOf}
+use Rattle.mode_a.specs.Over.{Listening, listenedAll, query, cross}
+use Rattle.mode_a.specs.Rows.{rowOf, requests}
+
+-- a station at another place, with count 0: "Then, and after every other step, the count is 0."  R-099
+abbrev pub movedTo : Station → Place → Station
+movedTo s p = record { role = s .role; place = p; count = 0; case = s .case; plus = s .plus }
+
+-- the same, with no + heard any more: "so does the step from Asking to Opening or from Turning to Receiving"  R-089
+abbrev pub cancelledTo : Station → Place → Station
+cancelledTo s p = record { role = s .role; place = p; count = 0; case = s .case; plus = false }
+
+-- an answer that prints nothing and takes no offer
+abbrev pub sends : Station → Words → Reply
+sends s w = record { station = s; sent = w; printed = silence; taken = false }
+
+-- "take the offer (nothing counts as taken too) .. Text gives that block, nothing gives βββ, over gives figures + ?, end gives
+-- ααα and place Ending."  R-052 to R-057
+abbrev pub holds : Station → Number → Words → Reply
+holds s n w =
+    record { station = movedTo s (Sending (record { number = n; block = w })); sent = w; printed = silence; taken = true }
+
+abbrev pub takes : Station → Number → Offer → Reply
+takes s n (Offer.Text w) = holds s n w
+takes s n Offer.Over = holds s n (words figures cross query)
+takes s n Offer.End =
+    record { station = movedTo s (Ending (record { number = n; total = 1 })); sent = ααα; printed = silence; taken = true }
+takes s n Offer.Nothing = holds s n (words beta beta beta)
+
+-- "the traffic signals are printed": the words of the block in order, β left out, 0 behind them  R-074
+abbrev pub withoutβ : List ℕ → List ℕ
+withoutβ [] = []
+withoutβ (w ∷ ws) = if eqb w beta then withoutβ ws else w ∷ withoutβ ws
+
+abbrev pub three : List ℕ → Words
+three ws = words (getD ws 0 0) (getD ws 1 0) (getD ws 2 0)
+
+unfoldable pub trafficIn : Words → Words
+trafficIn b = three (withoutβ (listOf b))
+
+abbrev pub isOver : Offer → Bool
+isOver (Offer.Text w) = false
+isOver Offer.Over = true
+isOver Offer.End = false
+isOver Offer.Nothing = false
+
+-- "it awaits the other number and asks for it by CS1 or CS2. But if the over was heard in this block, or the offer is over, it
+-- sends CS3 and goes to Asking (an over offered then counts as taken, no other offer does)."  R-075 to R-079
+abbrev pub heardAt : Station → Place → Listening → Station
+heardAt s p l = record { role = s .role; place = p; count = 0; case = l .case; plus = l .plus }
+
+abbrev pub acceptsBy : Station → Number → Words → Bool → Listening → Reply
+acceptsBy s n b true l =
+    record { station = heardAt s Asking l; sent = single cs3; printed = trafficIn b; taken = true }
+acceptsBy s n b false l =
+    if l .over then record { station = heardAt s Asking l; sent = single cs3; printed = trafficIn b; taken = false }
+    else record { station = heardAt s (Receiving (other n)) l; sent = asksFor (other n); printed = trafficIn b; taken = false }
+
+abbrev pub accepts : Station → Number → Words → Offer → Reply
+accepts s n b o = acceptsBy s n b (isOver o) (listenedAll (s .case) (s .plus) b)
+
+-- "Repetition count: steps in a row .. The 32nd makes it Lost and silent, with no offer taken."  R-096 to R-099
+abbrev pub repeats : Station → Words → Reply
+repeats s w =
+    if leb 31 (s .count) then sends (movedTo s Lost) silence
+    else sends (record { role = s .role; place = s .place; count = s .count + 1; case = s .case; plus = s .plus }) w
+
+unfoldable pub done : Station → Words → Offer → Doing → Reply
+done s b o (Repeats w) = repeats s w
+done s b o (Goes p w) = sends (movedTo s p) w
+done s b o (Takes n) = takes s n o
+done s b o (Receives n) = sends (cancelledTo s (Receiving n)) (asksFor n)
+done s b o Opens = sends (cancelledTo s Opening) (requests (s .role))
+done s b o (Accepts n) = accepts s n b o
+
+-- 01, Numbers returned, for the step. "mode A step 4, 3"
+--     4   "station with count over 31, an Ending total not 1 to 4, or a held word neither traffic nor β"      "0"
+--     3   "a word that may not stand there: text offer (traffic, β)"                                         "index of the first"
+-- Both are judged at every place.
+abbrev pub soundPlace : Place → Bool
+soundPlace (Sending h) = leb 3 (firstNot mayHold (listOf (h .block)))
+soundPlace (Turning n) = true
+soundPlace Opening = true
+soundPlace (Ending e) = leb 1 (e .total) && leb (e .total) 4
+soundPlace (Receiving n) = true
+soundPlace Asking = true
+soundPlace StandBy = true
+soundPlace Lost = true
+
+unfoldable pub sound : Station → Bool
+sound s = leb (s .count) 31 && soundPlace (s .place)
+
+abbrev pub offered : Offer → List ℕ
+offered (Offer.Text w) = listOf w
+offered Offer.Over = []
+offered Offer.End = []
+offered Offer.Nothing = []
+
+unfoldable pub stepping : Station → Words → Offer → Answer Reply
+stepping s b o =
+    if not (sound s) then refused 4 0
+    else if ltb (firstNot mayHold (offered o)) (length (offered o)) then refused 3 (firstNot mayHold (offered o))
+    else answered (done s b o (rowOf (s .role) (s .place) (heardOf b)))
+
+-- each case of the answer, by 01's number and the value beside it
+abbrev pub saidStepped : Stepped → Answer Reply
+saidStepped (Stepped.Done r) = answered r
+saidStepped (Stepped.BadStation s) = refused 4 0
+saidStepped (Stepped.BadWord i s) = refused 3 i
+
+-- the station that the answer hands back: "A refusal .. hands back the same station."  R-138
+abbrev pub handedBack : Stepped → Station
+handedBack (Stepped.Done r) = r .station
+handedBack (Stepped.BadStation s) = s
+handedBack (Stepped.BadWord i s) = s
+
+abbrev pub stationAfter : Station → Answer Reply → Station
+stationAfter s (answered r) = r .station
+stationAfter s (refused n v) = s

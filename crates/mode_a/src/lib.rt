@@ -1,0 +1,136 @@
+// One station of mode A (01, The station; 001, 3.3 to 3.7): what it is made of. The step is `station::step`; its rules, place
+// by place, are `specs/Rows.antt` and `specs/Step.antt`.
+ghost use mathlib.Core.Path.{_≡_};
+ghost use Rattle.mode_a.specs.Station.{freshMaster, freshSlave};
+use signals::Case;
+
+// "A station is master or slave".
+pub enum Role {
+    Master,
+    Slave,
+}
+
+// The number of a block: one of two, by its type.
+pub enum Number {
+    One,
+    Two,
+}
+
+// Three words: a burst, a block, the words of a text offer, or up to three printed signals with 0 behind them.
+pub struct Words(pub u8, pub u8, pub u8);
+
+// What Sending holds: a block and its number.
+pub struct Held {
+    pub number: Number,
+    pub block: Words,
+}
+
+// What Ending holds: the number under which end was taken, and how often ααα has been sent.
+pub struct Ended {
+    pub number: Number,
+    pub total: u8,
+}
+
+// The places, with what each carries. The moves between them:
+//   Opening    -> Sending      CS1 or CS2 first, the offer taken under that number;  -> Stand-by at CS3
+//   Sending    -> Turning      CS3 first.      Sending, Opening -> Ending   where the offer taken is end
+//   Turning    -> Receiving    RQ RQ RQ (master), RQ first (slave).        Asking -> Opening   βαβ
+//   Receiving  -> Asking       over heard in the block, or offered;  -> Stand-by at ααα
+//   Ending     -> Stand-by     the other number's signal, or ααα sent four times.    Others -> Lost   the 32nd repetition
+pub enum Place {
+    Sending(Held),
+    // the number of the last block
+    Turning(Number),
+    Opening,
+    Ending(Ended),
+    // the number awaited
+    Receiving(Number),
+    Asking,
+    StandBy,
+    Lost,
+}
+
+// "An offer is text (three words), over, end or nothing."
+pub enum Offer {
+    Text(Words),
+    Over,
+    End,
+    Nothing,
+}
+
+// A station: at every place it has its repetition count, and of the direction that it receives the case and whether a + was
+// heard that a ? would make an over.
+pub struct Station {
+    pub role: Role,
+    pub place: Place,
+    pub count: u8,
+    pub case: Case,
+    pub plus: bool,
+}
+
+// What a row says is done.
+pub enum Doing {
+    // stay, and send these again: a repetition
+    Repeats(Words),
+    // go to the place, and send these
+    Goes(Place, Words),
+    // take the offer under the number
+    Takes(Number),
+    // go to Receiving, await the number and ask for it; this cancels a + heard
+    Receives(Number),
+    // go to Opening, and send RQ as there; this cancels a + heard
+    Opens,
+    // accept the block that has the number
+    Accepts(Number),
+}
+
+// What a step answers.
+pub struct Reply {
+    pub station: Station,
+    pub sent: Words,
+    pub printed: Words,
+    pub taken: bool,
+}
+
+// What `station::step` answers: the step done, or a refusal with the same station.
+pub enum Stepped {
+    Done(Reply),
+    // 4: a count over 31, an Ending total not 1 to 4, or a held word neither traffic nor β
+    BadStation(Station),
+    // 3: a word of the text offer neither traffic nor β; the index of the first
+    BadWord(usize, Station),
+}
+
+impl Station {
+    // The repetition that makes a station Lost.
+    pub const LIMIT: u8 = 32;
+
+    // How often ααα is sent.
+    pub const ENDINGS: u8 = 4;
+
+    // "A fresh master is Opening."
+    pub fn fresh_master() -> Self
+        ensures { λ r. ⌜ r ≡ freshMaster ⌝ }
+    {
+        Station {
+            role: Role::Master,
+            place: Place::Opening,
+            count: 0,
+            case: Case::Letters,
+            plus: false,
+        }
+    }
+
+    // "A fresh slave is Receiving, awaits 1, and its first burst is CS1."
+    pub fn fresh_slave() -> Self
+        ensures { λ r. ⌜ r ≡ freshSlave ⌝ }
+    {
+        Station {
+            role: Role::Slave,
+            place: Place::Receiving(Number::One),
+            count: 0,
+            case: Case::Letters,
+            plus: false,
+        }
+    }
+}
