@@ -12,6 +12,7 @@ use Rattle.signals.specs.declared.Case.{Case}
 use Rattle.signals.specs.declared.Case.the-variants.{Letters, Figures}
 use Rattle.signals.specs.Meaning.{wordNo, letters, figures, beta}
 use Rattle.mode_a.specs.declared.Words.{Words}
+use Rattle.mode_a.specs.declared.Listening.{Listening}
 
 -- the words of ? and of +
 abbrev pub query : ℕ
@@ -19,13 +20,6 @@ query = wordNo 2
 
 abbrev pub cross : ℕ
 cross = wordNo 26
-
--- what is kept of the signals of accepted blocks: the case, whether a + was heard that only β has followed, and whether the
--- over was heard in this block
-pub record Listening : Type 0 where
-  pub case : Case
-  pub plus : Bool
-  pub over : Bool
 
 -- one signal that is neither β nor a shift, in the case in force
 abbrev pub signalIn : Case → Bool → Bool → ℕ → Listening

@@ -1,6 +1,7 @@
 -- 01, The station: "One step: hear a burst, take an offer, answer with the new station, a burst to send, up to three printed
 -- signals, and whether the offer was taken."  R-039, R-040
 -- Assumes nothing.
+use mathlib.Core.Path.{_≡_}
 use mathlib.Core.Bool.{Bool, true, false, not, _&&_}
 use mathlib.Core.List.{List, [], _∷_}
 use Prim.Native.Nat.{ℕ, _+_}
@@ -22,7 +23,8 @@ use Rattle.mode_a.specs.declared.Reply.{Reply}
 use Rattle.mode_a.specs.declared.Stepped.{Stepped}
 use Rattle.mode_a.specs.Station.{words, listOf, single, silence, ααα, other, asksFor}
 use Rattle.mode_a.specs.Heard.{mayHold, heardOf}
-use Rattle.mode_a.specs.Over.{Listening, listenedAll, query, cross}
+use Rattle.mode_a.specs.declared.Listening.{Listening}
+use Rattle.mode_a.specs.Over.{listenedAll, query, cross}
 use Rattle.mode_a.specs.Rows.{rowOf, requests}
 
 -- a station at another place, with count 0: "Then, and after every other step, the count is 0."  R-099
@@ -140,3 +142,7 @@ handedBack (Stepped.BadWord i s) = s
 abbrev pub stationAfter : Station → Answer Reply → Station
 stationAfter s (answered r) = r .station
 stationAfter s (refused n v) = s
+
+-- The promise of `step`: r is the answer to a step of the station s.  R-168
+abbrev pub Steps : Station → Words → Offer → Stepped → Type 0
+Steps s b o r = (saidStepped r ≡ stepping s b o) × (handedBack r ≡ stationAfter s (stepping s b o))

@@ -1,7 +1,8 @@
 // One station of mode A (01, The station; 001, 3.3 to 3.7): what it is made of. The step is `station::step`; its rules, place
 // by place, are `specs/Rows.antt` and `specs/Step.antt`.
 ghost use mathlib.Core.Path.{_≡_};
-ghost use Rattle.mode_a.specs.Station.{freshMaster, freshSlave};
+ghost use Rattle.mode_a.specs.Station.{other, same, asksFor, freshMaster, freshSlave};
+ghost use Rattle.mode_a.specs.Heard.{mayHold};
 use signals::Case;
 
 // "A station is master or slave".
@@ -16,8 +17,66 @@ pub enum Number {
     Two,
 }
 
+impl Number {
+    pub fn other(self) -> Number
+        ensures { λ r. ⌜ r ≡ other self ⌝ }
+    {
+        match self {
+            Number::One => Number::Two,
+            Number::Two => Number::One,
+        }
+    }
+
+    pub fn same(self, number: Number) -> bool
+        ensures { λ r. ⌜ r ≡ same self number ⌝ }
+    {
+        match self {
+            Number::One => match number {
+                Number::One => true,
+                Number::Two => false,
+            },
+            Number::Two => match number {
+                Number::One => false,
+                Number::Two => true,
+            },
+        }
+    }
+
+    // The control signal that asks for the block with this number.
+    pub fn asks(self) -> Words
+        ensures { λ r. ⌜ r ≡ asksFor self ⌝ }
+    {
+        match self {
+            Number::One => Words(signals::CS1, 0, 0),
+            Number::Two => Words(signals::CS2, 0, 0),
+        }
+    }
+}
+
 // Three words: a burst, a block, the words of a text offer, or up to three printed signals with 0 behind them.
 pub struct Words(pub u8, pub u8, pub u8);
+
+pub const SILENCE: Words = Words(0, 0, 0);
+
+pub const RQS: Words = Words(signals::RQ, signals::RQ, signals::RQ);
+
+pub const ALPHAS: Words = Words(signals::ALPHA, signals::ALPHA, signals::ALPHA);
+
+pub const TURN: Words = Words(signals::BETA, signals::ALPHA, signals::BETA);
+
+// Whether a word may stand in a block: traffic or β.
+pub fn may_hold(word: u8) -> bool
+    ensures { λ r. ⌜ r ≡ mayHold word ⌝ }
+{
+    let number = signals::meaning(word);
+    if number == 0 {
+        return false;
+    }
+    if number == 33 {
+        return false;
+    }
+    number != 35
+}
 
 // What Sending holds: a block and its number.
 pub struct Held {
@@ -66,6 +125,14 @@ pub struct Station {
     pub count: u8,
     pub case: Case,
     pub plus: bool,
+}
+
+// What is kept of the signals of accepted blocks: the case, whether a + was heard that only β has followed, and whether the over
+// was heard in this block.
+pub struct Listening {
+    pub case: Case,
+    pub plus: bool,
+    pub over: bool,
 }
 
 // What a row says is done.

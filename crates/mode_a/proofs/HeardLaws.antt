@@ -1,0 +1,63 @@
+-- What may stand in a block, by the signal's number: one test that antt computes over all 256 bytes. And what a first word
+-- says. Assumes nothing.
+use mathlib.Core.Path.{_≡_, refl}
+use mathlib.Core.Bool.{Bool, true, false, not, _&&_, _||_}
+use Prim.Native.Nat.{ℕ, _<_}
+use lib.Dec.{eqb}
+use borrow.Author.Tests.{ne-eqb, eqb-true, eqb-false}
+use Rattle.laws.specs.Choice.{if_then_else_}
+use Rattle.laws.proofs.Table.{tabFrom, same-table}
+use Rattle.signals.specs.Meaning.{meaningOf, trafficOf, cs1, cs2, cs3, rq}
+use Rattle.mode_a.specs.declared.Number.the-variants.{One, Two}
+use Rattle.mode_a.specs.Heard.{First, Cs, Cs3, Rq, Else, firstOf, mayHold}
+
+abbrev byNumber : ℕ → Bool
+byNumber n = not (eqb n 0) && (not (eqb n 33) && not (eqb n 35))
+
+same : tabFrom mayHold 256 0 ≡ tabFrom (λ w. byNumber (meaningOf w)) 256 0
+unfolding mayHold trafficOf meaningOf
+same = refl
+
+pub may-hold-number : (w : ℕ) → w < 256 → mayHold w ≡ not (eqb (meaningOf w) 0) && (not (eqb (meaningOf w) 33) && not (eqb (meaningOf w) 35))
+may-hold-number w h = same-table mayHold (λ w. byNumber (meaningOf w)) 256 false same w h
+
+-- the first word, by its value
+module _ (w : ℕ) where
+  pub first-cs1 : w ≡ cs1 → firstOf w ≡ Cs One
+  unfolding firstOf
+  first-cs1 e = rw e
+
+  pub first-cs2 : w ≡ cs2 → firstOf w ≡ Cs Two
+  unfolding firstOf
+  first-cs2 e = rw e
+
+  pub first-cs3 : w ≡ cs3 → firstOf w ≡ Cs3
+  unfolding firstOf
+  first-cs3 e = rw e
+
+  pub first-rq : w ≡ rq → firstOf w ≡ Rq
+  unfolding firstOf
+  first-rq e = rw e
+
+  pub first-else : (w ≡ cs1 → ⊥) → (w ≡ cs2 → ⊥) → (w ≡ cs3 → ⊥) → (w ≡ rq → ⊥) → firstOf w ≡ Else
+  unfolding firstOf
+  first-else a b c d = rw (ne-eqb w cs1 a, ne-eqb w cs2 b, ne-eqb w cs3 c, ne-eqb w rq d)
+
+-- and the other way round: what a first word says tells which word it is
+abbrev pub Says : ℕ → First → Type 0
+Says w (Cs One) = w ≡ cs1
+Says w (Cs Two) = w ≡ cs2
+Says w Cs3 = w ≡ cs3
+Says w Rq = w ≡ rq
+Says w Else = (w ≡ cs1 → ⊥) × (w ≡ cs2 → ⊥) × (w ≡ cs3 → ⊥) × (w ≡ rq → ⊥)
+
+pub first-says : (w : ℕ) → Says w (firstOf w)
+unfolding firstOf
+first-says w = go (eqb w cs1) (eqb w cs2) (eqb w cs3) (eqb w rq) refl refl refl refl
+  where
+    go : (a b c d : Bool) → eqb w cs1 ≡ a → eqb w cs2 ≡ b → eqb w cs3 ≡ c → eqb w rq ≡ d → Says w (if a then Cs One else if b then Cs Two else if c then Cs3 else if d then Rq else Else)
+    go true b c d p q r s = eqb-true w cs1 p
+    go false true c d p q r s = eqb-true w cs2 q
+    go false false true d p q r s = eqb-true w cs3 r
+    go false false false true p q r s = eqb-true w rq s
+    go false false false false p q r s = (eqb-false w cs1 p, eqb-false w cs2 q, eqb-false w cs3 r, eqb-false w rq s)

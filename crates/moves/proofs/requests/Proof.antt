@@ -1,0 +1,21 @@
+-- `moves::requests` meets its contract. Assumes nothing.
+use borrow.Author.Needs.{needs}
+use Rattle.moves.proofs.requests.Statement.{statement}
+use Rattle.moves.proofs.requests.Tie as tie
+use Rattle.moves.proofs.requests.Reads as reads
+use Rattle.moves.proofs.requests.Lts as lts
+
+enum-told : tie.Need-enum-told
+enum-told c = search needs
+
+enum-told-2 : tie.Need-enum-told-2
+enum-told-2 c = search needs
+
+returns : tie.Need-returns
+returns c = simp (c .enum-told .given .1)
+
+returns-2 : tie.Need-returns-2
+returns-2 c = simp (c .enum-told2 .given .1)
+
+pub requests-spec : {M : Type 1} → statement M
+requests-spec = tie.close (tie.spec enum-told enum-told-2 returns returns-2)

@@ -1,0 +1,138 @@
+// What each action of the table does at a place: the code's side of 01's rows (01, The station). The law `rows-agree` says that
+// table and actions together are the rows of `mode_a`.
+ghost use mathlib.Core.Path.{_≡_};
+ghost use Rattle.mode_a.specs.Rows.{requests};
+ghost use Rattle.moves.specs.Moves.{numberIn, blockIn, totalIn, asked, endsAgain, ended, doingOf};
+use mode_a::Doing;
+use mode_a::Ended;
+use mode_a::Number;
+use mode_a::Place;
+use mode_a::Role;
+use mode_a::Station;
+use mode_a::Words;
+use table::Action;
+
+// The number that a place carries; where it carries none, no action asks for it.
+fn number_in(place: Place) -> Number
+    ensures { λ r. ⌜ r ≡ numberIn place ⌝ }
+{
+    match place {
+        Place::Sending(held) => held.number,
+        Place::Turning(number) => number,
+        Place::Opening => Number::One,
+        Place::Ending(ended) => ended.number,
+        Place::Receiving(number) => number,
+        Place::Asking => Number::One,
+        Place::StandBy => Number::One,
+        Place::Lost => Number::One,
+    }
+}
+
+// The block that Sending holds.
+fn block_in(place: Place) -> Words
+    ensures { λ r. ⌜ r ≡ blockIn place ⌝ }
+{
+    match place {
+        Place::Sending(held) => held.block,
+        Place::Turning(_) => mode_a::SILENCE,
+        Place::Opening => mode_a::SILENCE,
+        Place::Ending(_) => mode_a::SILENCE,
+        Place::Receiving(_) => mode_a::SILENCE,
+        Place::Asking => mode_a::SILENCE,
+        Place::StandBy => mode_a::SILENCE,
+        Place::Lost => mode_a::SILENCE,
+    }
+}
+
+// How often Ending has sent ααα.
+fn total_in(place: Place) -> u8
+    ensures { λ r. ⌜ r ≡ totalIn place ⌝ }
+{
+    match place {
+        Place::Sending(_) => 0,
+        Place::Turning(_) => 0,
+        Place::Opening => 0,
+        Place::Ending(ended) => ended.total,
+        Place::Receiving(_) => 0,
+        Place::Asking => 0,
+        Place::StandBy => 0,
+        Place::Lost => 0,
+    }
+}
+
+// One RQ if master, three if slave.
+pub fn requests(role: Role) -> Words
+    ensures { λ r. ⌜ r ≡ requests role ⌝ }
+{
+    match role {
+        Role::Master => Words(signals::RQ, 0, 0),
+        Role::Slave => mode_a::RQS,
+    }
+}
+
+// Sending that hears the control signal of a number.
+fn asked(heard: Number, number: Number, block: Words) -> Doing
+    ensures { λ r. ⌜ r ≡ asked heard number block ⌝ }
+{
+    if heard.same(number) {
+        return Doing::Repeats(block);
+    }
+    Doing::Takes(number.other())
+}
+
+// Ending that hears anything but the other number's control signal.
+fn ends_again(number: Number, total: u8) -> Doing
+    ensures { λ r. ⌜ r ≡ endsAgain number total ⌝ }
+{
+    if Station::ENDINGS <= total {
+        return Doing::Goes(Place::StandBy, mode_a::SILENCE);
+    }
+    Doing::Goes(
+        Place::Ending(Ended {
+            number: number,
+            total: total + 1,
+        }),
+        mode_a::ALPHAS,
+    )
+}
+
+// Ending that hears the control signal of a number.
+fn ended(heard: Number, number: Number, total: u8) -> Doing
+    ensures { λ r. ⌜ r ≡ ended heard number total ⌝ }
+{
+    if heard.same(number) {
+        return ends_again(number, total);
+    }
+    Doing::Goes(Place::StandBy, mode_a::SILENCE)
+}
+
+pub fn doing(action: Action, role: Role, place: Place) -> Doing
+    ensures { λ r. ⌜ r ≡ doingOf action role place ⌝ }
+{
+    let number = number_in(place);
+    match action {
+        Action::Asked1 => asked(Number::One, number, block_in(place)),
+        Action::Asked2 => asked(Number::Two, number, block_in(place)),
+        Action::Turn => Doing::Goes(Place::Turning(number), mode_a::TURN),
+        Action::Rqs => Doing::Repeats(mode_a::RQS),
+        Action::TurnAgain => Doing::Repeats(mode_a::TURN),
+        Action::Receive => Doing::Receives(number.other()),
+        Action::ReceiveIfSlave => match role {
+            Role::Master => Doing::Repeats(mode_a::RQS),
+            Role::Slave => Doing::Receives(number.other()),
+        },
+        Action::Take1 => Doing::Takes(Number::One),
+        Action::Take2 => Doing::Takes(Number::Two),
+        Action::StandBy => Doing::Goes(Place::StandBy, mode_a::SILENCE),
+        Action::Request => Doing::Repeats(requests(role)),
+        Action::Ended1 => ended(Number::One, number, total_in(place)),
+        Action::Ended2 => ended(Number::Two, number, total_in(place)),
+        Action::EndAgain => ends_again(number, total_in(place)),
+        Action::Accept => Doing::Accepts(number),
+        Action::AskAgain => Doing::Repeats(number.asks()),
+        Action::Finish => Doing::Goes(Place::StandBy, number.other().asks()),
+        Action::Cs3Again => Doing::Repeats(Words(signals::CS3, 0, 0)),
+        Action::Open => Doing::Opens,
+        Action::Silent => Doing::Goes(place, mode_a::SILENCE),
+    }
+}

@@ -1,0 +1,133 @@
+use borrow.Author.Needs.{needs}
+use Rattle.station.proofs.done.Statement.{statement}
+use Rattle.station.proofs.done.Tie as tie
+use Rattle.station.proofs.done.Reads as reads
+use Rattle.station.proofs.done.Lts as lts
+use Rattle.mode_a.proofs.Number.asks.Reads as asks-reads
+use Rattle.moves.proofs.requests.Reads as requests-reads
+use Rattle.station.proofs.accepts.Reads as accepts-reads
+use Rattle.station.proofs.cancelled_to.Reads as cancelled-to-reads
+use Rattle.station.proofs.moved_to.Reads as moved-to-reads
+use Rattle.station.proofs.repeats.Reads as repeats-reads
+use Rattle.station.proofs.sends.Reads as sends-reads
+use Rattle.station.proofs.takes.Reads as takes-reads
+
+-- src/lib.rt:282:24
+enum-known-doing : tie.Need-enum-known-doing
+enum-known-doing c = search needs
+
+-- src/lib.rt:282:34
+repeats-requires : tie.Need-repeats-requires
+repeats-requires c κs = search needs
+
+-- src/lib.rt:283:21
+enum-known-doing-2 : tie.Need-enum-known-doing-2
+enum-known-doing-2 c = search needs
+
+-- src/lib.rt:283:44
+moved-to-requires : tie.Need-moved-to-requires
+moved-to-requires c κs = search needs
+
+-- src/lib.rt:283:38
+sends-requires : tie.Need-sends-requires
+sends-requires c κs = search needs
+
+-- src/lib.rt:284:22
+enum-known-doing-3 : tie.Need-enum-known-doing-3
+enum-known-doing-3 c = search needs
+
+-- src/lib.rt:284:33
+takes-requires : tie.Need-takes-requires
+takes-requires c κs = search needs
+
+-- src/lib.rt:285:25
+enum-known-doing-4 : tie.Need-enum-known-doing-4
+enum-known-doing-4 c = search needs
+
+-- src/lib.rt:286:19
+cancelled-to-requires : tie.Need-cancelled-to-requires
+cancelled-to-requires c κs = search needs
+
+-- src/lib.rt:286:62
+asks-requires : tie.Need-asks-requires
+asks-requires c κs = search needs
+
+-- src/lib.rt:286:13
+sends-requires-2 : tie.Need-sends-requires-2
+sends-requires-2 c κs = search needs
+
+-- src/lib.rt:288:47
+enum-told : tie.Need-enum-told
+enum-told c = search needs
+
+-- src/lib.rt:288:31
+cancelled-to-requires-2 : tie.Need-cancelled-to-requires-2
+cancelled-to-requires-2 c κs = search needs
+
+-- src/lib.rt:288:64
+requests-requires : tie.Need-requests-requires
+requests-requires c κs = search needs
+
+-- src/lib.rt:288:25
+sends-requires-3 : tie.Need-sends-requires-3
+sends-requires-3 c κs = search needs
+
+-- src/lib.rt:289:24
+enum-known-doing-5 : tie.Need-enum-known-doing-5
+enum-known-doing-5 c = search needs
+
+-- src/lib.rt:289:35
+accepts-requires : tie.Need-accepts-requires
+accepts-requires c κs = search needs
+
+-- src/lib.rt:277:1
+returns : tie.Need-returns
+returns c = ?
+
+-- src/lib.rt:277:1
+returns-2 : tie.Need-returns-2
+returns-2 c = ?
+
+-- src/lib.rt:277:1
+returns-3 : tie.Need-returns-3
+returns-3 c = ?
+
+-- src/lib.rt:277:1
+returns-4 : tie.Need-returns-4
+returns-4 c = ?
+
+-- src/lib.rt:277:1
+returns-5 : tie.Need-returns-5
+returns-5 c = ?
+
+-- src/lib.rt:277:1
+returns-6 : tie.Need-returns-6
+returns-6 c = ?
+
+pub done-spec : {M : Type 1} → statement M
+done-spec =
+    tie.close
+    (tie.spec
+    enum-known-doing
+    repeats-requires
+    enum-known-doing-2
+    moved-to-requires
+    sends-requires
+    enum-known-doing-3
+    takes-requires
+    enum-known-doing-4
+    cancelled-to-requires
+    asks-requires
+    sends-requires-2
+    enum-told
+    cancelled-to-requires-2
+    requests-requires
+    sends-requires-3
+    enum-known-doing-5
+    accepts-requires
+    returns
+    returns-2
+    returns-3
+    returns-4
+    returns-5
+    returns-6)

@@ -1,0 +1,3 @@
+-- Laws of the table that the crates above cite.
+--     KindLaws   what the rows ask of a burst is what they ask of its kind
+pub mod KindLaws

@@ -1,0 +1,64 @@
+-- The cell of each place at each kind of burst: which of the code's actions the place takes. That the actions do what the rows of
+-- `mode_a` say is proved in `moves` (rows-agree). Assumes nothing.
+use mathlib.Core.Bool.{Bool, true, false}
+use Prim.Native.Nat.{ℕ}
+use Rattle.laws.specs.Choice.{if_then_else_}
+use Rattle.mode_a.specs.declared.Number.the-variants.{One, Two}
+use Rattle.mode_a.specs.declared.Place.{Place}
+use Rattle.mode_a.specs.declared.Place.the-variants.{Sending, Turning, Opening, Ending, Receiving, Asking, StandBy, Lost}
+use Rattle.mode_a.specs.Heard.{First, Cs, Heard}
+use Rattle.table.specs.declared.Kind.{Kind}
+use Rattle.table.specs.declared.Action.{Action}
+use Rattle.table.specs.Kinds.{heardK}
+
+-- Sending, Opening and Ending read the first word
+abbrev pub sendingOn : First → Action
+sendingOn (Cs One) = Action.Asked1
+sendingOn (Cs Two) = Action.Asked2
+sendingOn First.Cs3 = Action.Turn
+sendingOn First.Rq = Action.Rqs
+sendingOn First.Else = Action.Rqs
+
+abbrev pub openingOn : First → Action
+openingOn (Cs One) = Action.Take1
+openingOn (Cs Two) = Action.Take2
+openingOn First.Cs3 = Action.StandBy
+openingOn First.Rq = Action.Request
+openingOn First.Else = Action.Request
+
+abbrev pub endingOn : First → Action
+endingOn (Cs One) = Action.Ended1
+endingOn (Cs Two) = Action.Ended2
+endingOn First.Cs3 = Action.EndAgain
+endingOn First.Rq = Action.EndAgain
+endingOn First.Else = Action.EndAgain
+
+abbrev pub turningOn : First → Action
+turningOn (Cs n) = Action.Rqs
+turningOn First.Cs3 = Action.TurnAgain
+turningOn First.Rq = Action.ReceiveIfSlave
+turningOn First.Else = Action.Rqs
+
+abbrev pub receivingOn : Heard → Action
+receivingOn h = if h .block then Action.Accept else if h .alphas then Action.Finish else Action.AskAgain
+
+unfoldable pub actionOf : Place → Kind → Action
+actionOf (Sending h) k = sendingOn (heardK k .first)
+actionOf (Turning n) k = if heardK k .RQs then Action.Receive else turningOn (heardK k .first)
+actionOf Opening k = openingOn (heardK k .first)
+actionOf (Ending e) k = endingOn (heardK k .first)
+actionOf (Receiving n) k = receivingOn (heardK k)
+actionOf Asking k = if heardK k .turned then Action.Open else Action.Cs3Again
+actionOf StandBy k = Action.Silent
+actionOf Lost k = Action.Silent
+
+-- the row
+abbrev pub rowNo : Place → ℕ
+rowNo (Sending h) = 0
+rowNo (Turning n) = 1
+rowNo Opening = 2
+rowNo (Ending e) = 3
+rowNo (Receiving n) = 4
+rowNo Asking = 5
+rowNo StandBy = 6
+rowNo Lost = 7
