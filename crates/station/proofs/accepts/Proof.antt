@@ -1,3 +1,5 @@
+-- `station::accepts` meets its contract. Assumes nothing.
+use Rattle.station.proofs.PartLaws.{over-offered, over-heard, goes-on}
 use borrow.Author.Needs.{needs}
 use Rattle.station.proofs.accepts.Statement.{statement}
 use Rattle.station.proofs.accepts.Tie as tie
@@ -10,57 +12,53 @@ use Rattle.station.proofs.is_over.Reads as is-over-reads
 use Rattle.station.proofs.listened_all.Reads as listened-all-reads
 use Rattle.station.proofs.traffic_in.Reads as traffic-in-reads
 
--- src/lib.rt:227:9
 listened-all-requires : tie.Need-listened-all-requires
 listened-all-requires c κs = search needs
 
--- src/lib.rt:228:9
 is-over-requires : tie.Need-is-over-requires
 is-over-requires c κs = search needs
 
--- src/lib.rt:231:22
 heard-at-requires : tie.Need-heard-at-requires
 heard-at-requires c κs = search needs
 
--- src/lib.rt:233:22
 traffic-in-requires : tie.Need-traffic-in-requires
 traffic-in-requires c κs = search needs
 
--- src/lib.rt:230:9
 returns : tie.Need-returns
-returns c = ?
+returns c =
+    let a = c .before .before .before .before .before in
+    over-offered (a .args .s) (a .args .number) (a .args .b) (a .args .offer) (c .before .before .before .is-over .result) (c .before .before .before .is-over .ensures) (c .before .before .before .before .listened-all .result) (c .before .before .before .before .listened-all .ensures) (c .traffic-in .result) (c .traffic-in .ensures)
+    (c .before .before .if1 .taken) (c .before .heard-at .result) (c .before .heard-at .ensures)
 
--- src/lib.rt:239:22
 heard-at-requires-2 : tie.Need-heard-at-requires-2
 heard-at-requires-2 c κs = search needs
 
--- src/lib.rt:241:22
 traffic-in-requires-2 : tie.Need-traffic-in-requires-2
 traffic-in-requires-2 c κs = search needs
 
--- src/lib.rt:238:9
 returns-2 : tie.Need-returns-2
-returns-2 c = ?
+returns-2 c =
+    let a = c .before .before .before .before .before .before in
+    over-heard (a .args .s) (a .args .number) (a .args .b) (a .args .offer) (c .before .before .before .before .is-over .result) (c .before .before .before .before .is-over .ensures) (c .before .before .before .before .before .listened-all .result) (c .before .before .before .before .before .listened-all .ensures) (c .traffic-in2 .result) (c .traffic-in2 .ensures)
+    (c .before .before .before .if1 .left) (c .before .before .if2 .taken) (c .before .heard-at2 .result) (c .before .heard-at2 .ensures)
 
--- src/lib.rt:245:9
 other-requires : tie.Need-other-requires
 other-requires c κs = search needs
 
--- src/lib.rt:247:18
 heard-at-requires-3 : tie.Need-heard-at-requires-3
 heard-at-requires-3 c κs = search needs
 
--- src/lib.rt:248:15
 asks-requires : tie.Need-asks-requires
 asks-requires c κs = search needs
 
--- src/lib.rt:249:18
 traffic-in-requires-3 : tie.Need-traffic-in-requires-3
 traffic-in-requires-3 c κs = search needs
 
--- src/lib.rt:223:1
 returns-3 : tie.Need-returns-3
-returns-3 c = ?
+returns-3 c =
+    let a = c .before .before .before .before .before .before .before .before in
+    goes-on (a .args .s) (a .args .number) (a .args .b) (a .args .offer) (c .before .before .before .before .before .before .is-over .result) (c .before .before .before .before .before .before .is-over .ensures) (c .before .before .before .before .before .before .before .listened-all .result) (c .before .before .before .before .before .before .before .listened-all .ensures) (c .traffic-in3 .result) (c .traffic-in3 .ensures)
+    (c .before .before .before .before .before .if1 .left) (c .before .before .before .before .if2 .left) (c .before .before .before .other .result) (c .before .before .before .other .ensures) (c .before .before .heard-at3 .result) (c .before .before .heard-at3 .ensures) (c .before .asks .result) (c .before .asks .ensures)
 
 pub accepts-spec : {M : Type 1} → statement M
 accepts-spec =

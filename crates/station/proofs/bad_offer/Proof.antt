@@ -1,3 +1,4 @@
+-- `station::bad_offer` meets its contract. Assumes nothing.
 use borrow.Author.Needs.{needs}
 use Rattle.station.proofs.bad_offer.Statement.{statement}
 use Rattle.station.proofs.bad_offer.Tie as tie
@@ -5,39 +6,30 @@ use Rattle.station.proofs.bad_offer.Reads as reads
 use Rattle.station.proofs.bad_offer.Lts as lts
 use Rattle.station.proofs.first_bad.Reads as first-bad-reads
 
--- src/lib.rt:349:21
 enum-known-offer : tie.Need-enum-known-offer
 enum-known-offer c = search needs
 
--- src/lib.rt:349:31
 first-bad-requires : tie.Need-first-bad-requires
 first-bad-requires c κs = search needs
 
--- src/lib.rt:350:24
 enum-told : tie.Need-enum-told
 enum-told c = search needs
 
--- src/lib.rt:351:23
 enum-told-2 : tie.Need-enum-told-2
 enum-told-2 c = search needs
 
--- src/lib.rt:352:27
 enum-told-3 : tie.Need-enum-told-3
 enum-told-3 c = search needs
 
--- src/lib.rt:345:1
 returns : tie.Need-returns
-returns c = ?
+returns c = simp (c .first-bad .ensures, c .before .before .offer .given .1)
 
--- src/lib.rt:345:1
 returns-2 : tie.Need-returns-2
 returns-2 c = search needs
 
--- src/lib.rt:345:1
 returns-3 : tie.Need-returns-3
 returns-3 c = search needs
 
--- src/lib.rt:345:1
 returns-4 : tie.Need-returns-4
 returns-4 c = search needs
 

@@ -1,3 +1,5 @@
+-- `station::done` meets its contract. Assumes nothing.
+use Rattle.mode_a.specs.Step.{done}
 use borrow.Author.Needs.{needs}
 use Rattle.station.proofs.done.Statement.{statement}
 use Rattle.station.proofs.done.Tie as tie
@@ -12,97 +14,80 @@ use Rattle.station.proofs.repeats.Reads as repeats-reads
 use Rattle.station.proofs.sends.Reads as sends-reads
 use Rattle.station.proofs.takes.Reads as takes-reads
 
--- src/lib.rt:282:24
 enum-known-doing : tie.Need-enum-known-doing
 enum-known-doing c = search needs
 
--- src/lib.rt:282:34
 repeats-requires : tie.Need-repeats-requires
 repeats-requires c κs = search needs
 
--- src/lib.rt:283:21
 enum-known-doing-2 : tie.Need-enum-known-doing-2
 enum-known-doing-2 c = search needs
 
--- src/lib.rt:283:44
 moved-to-requires : tie.Need-moved-to-requires
 moved-to-requires c κs = search needs
 
--- src/lib.rt:283:38
 sends-requires : tie.Need-sends-requires
 sends-requires c κs = search needs
 
--- src/lib.rt:284:22
 enum-known-doing-3 : tie.Need-enum-known-doing-3
 enum-known-doing-3 c = search needs
 
--- src/lib.rt:284:33
 takes-requires : tie.Need-takes-requires
 takes-requires c κs = search needs
 
--- src/lib.rt:285:25
 enum-known-doing-4 : tie.Need-enum-known-doing-4
 enum-known-doing-4 c = search needs
 
--- src/lib.rt:286:19
 cancelled-to-requires : tie.Need-cancelled-to-requires
 cancelled-to-requires c κs = search needs
 
--- src/lib.rt:286:62
 asks-requires : tie.Need-asks-requires
 asks-requires c κs = search needs
 
--- src/lib.rt:286:13
 sends-requires-2 : tie.Need-sends-requires-2
 sends-requires-2 c κs = search needs
 
--- src/lib.rt:288:47
 enum-told : tie.Need-enum-told
 enum-told c = search needs
 
--- src/lib.rt:288:31
 cancelled-to-requires-2 : tie.Need-cancelled-to-requires-2
 cancelled-to-requires-2 c κs = search needs
 
--- src/lib.rt:288:64
 requests-requires : tie.Need-requests-requires
 requests-requires c κs = search needs
 
--- src/lib.rt:288:25
 sends-requires-3 : tie.Need-sends-requires-3
 sends-requires-3 c κs = search needs
 
--- src/lib.rt:289:24
 enum-known-doing-5 : tie.Need-enum-known-doing-5
 enum-known-doing-5 c = search needs
 
--- src/lib.rt:289:35
 accepts-requires : tie.Need-accepts-requires
 accepts-requires c κs = search needs
 
--- src/lib.rt:277:1
 returns : tie.Need-returns
-returns c = ?
+unfolding done
+returns c = simp (c .repeats .ensures, c .before .before .doing .given .1)
 
--- src/lib.rt:277:1
 returns-2 : tie.Need-returns-2
-returns-2 c = ?
+unfolding done
+returns-2 c = simp (c .sends .ensures, c .before .moved-to .ensures, c .before .before .before .doing2 .given .1)
 
--- src/lib.rt:277:1
 returns-3 : tie.Need-returns-3
-returns-3 c = ?
+unfolding done
+returns-3 c = simp (c .takes .ensures, c .before .before .doing3 .given .1)
 
--- src/lib.rt:277:1
 returns-4 : tie.Need-returns-4
-returns-4 c = ?
+unfolding done
+returns-4 c = simp (c .sends2 .ensures, c .before .asks .ensures, c .before .before .cancelled-to .ensures, c .before .before .before .before .doing4 .given .1)
 
--- src/lib.rt:277:1
 returns-5 : tie.Need-returns-5
-returns-5 c = ?
+unfolding done
+returns-5 c = simp (c .sends3 .ensures, c .before .requests .ensures, c .before .before .cancelled-to2 .ensures, c .before .before .before .enum-told .given .1)
 
--- src/lib.rt:277:1
 returns-6 : tie.Need-returns-6
-returns-6 c = ?
+unfolding done
+returns-6 c = simp (c .accepts .ensures, c .before .before .doing5 .given .1)
 
 pub done-spec : {M : Type 1} → statement M
 done-spec =

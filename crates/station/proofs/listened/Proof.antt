@@ -1,3 +1,6 @@
+-- `station::listened` meets its contract. Assumes nothing.
+use borrow.Author.Tests.{eq-eqb, ne-eqb}
+use Rattle.mode_a.specs.Over.{listened}
 use borrow.Author.Needs.{needs}
 use Rattle.station.proofs.listened.Statement.{statement}
 use Rattle.station.proofs.listened.Tie as tie
@@ -5,25 +8,24 @@ use Rattle.station.proofs.listened.Reads as reads
 use Rattle.station.proofs.listened.Lts as lts
 use Rattle.station.proofs.signal_in.Reads as signal-in-reads
 
--- src/lib.rt:71:9
 returns : tie.Need-returns
-returns c = ?
+unfolding listened
+returns c = rw (eq-eqb _ _ (c .if1 .taken))
 
--- src/lib.rt:74:9
 returns-2 : tie.Need-returns-2
-returns-2 c = ?
+unfolding listened
+returns-2 c = rw (ne-eqb _ _ (c .before .if1 .left), eq-eqb _ _ (c .if2 .taken))
 
--- src/lib.rt:81:9
 returns-3 : tie.Need-returns-3
-returns-3 c = ?
+unfolding listened
+returns-3 c = rw (ne-eqb _ _ (c .before .before .if1 .left), ne-eqb _ _ (c .before .if2 .left), eq-eqb _ _ (c .if3 .taken))
 
--- src/lib.rt:87:5
 signal-in-requires : tie.Need-signal-in-requires
 signal-in-requires c κs = search needs
 
--- src/lib.rt:67:1
 returns-4 : tie.Need-returns-4
-returns-4 c = ?
+unfolding listened
+returns-4 c = rw (ne-eqb _ _ (c .before .before .before .if1 .left), ne-eqb _ _ (c .before .before .if2 .left), ne-eqb _ _ (c .before .if3 .left)) (c .signal-in .ensures)
 
 pub listened-spec : {M : Type 1} → statement M
 listened-spec = tie.close (tie.spec returns returns-2 returns-3 signal-in-requires returns-4)

@@ -1,3 +1,4 @@
+-- `station::listened_all` meets its contract. Assumes nothing.
 use borrow.Author.Needs.{needs}
 use Rattle.station.proofs.listened_all.Statement.{statement}
 use Rattle.station.proofs.listened_all.Tie as tie
@@ -5,21 +6,17 @@ use Rattle.station.proofs.listened_all.Reads as reads
 use Rattle.station.proofs.listened_all.Lts as lts
 use Rattle.station.proofs.listened.Reads as listened-reads
 
--- src/lib.rt:99:23
 listened-requires : tie.Need-listened-requires
 listened-requires c κs = search needs
 
--- src/lib.rt:99:14
 listened-requires-2 : tie.Need-listened-requires-2
 listened-requires-2 c κs = search needs
 
--- src/lib.rt:99:5
 listened-requires-3 : tie.Need-listened-requires-3
 listened-requires-3 c κs = search needs
 
--- src/lib.rt:91:1
 returns : tie.Need-returns
-returns c = ?
+returns c = simp (c .listened3 .ensures, c .before .listened2 .ensures, c .before .before .listened .ensures)
 
 pub listened-all-spec : {M : Type 1} → statement M
 listened-all-spec =

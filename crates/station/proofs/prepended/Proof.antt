@@ -1,15 +1,15 @@
+-- `station::prepended` meets its contract. Assumes nothing.
+use borrow.Author.Tests.{eq-eqb, ne-eqb}
 use Rattle.station.proofs.prepended.Statement.{statement}
 use Rattle.station.proofs.prepended.Tie as tie
 use Rattle.station.proofs.prepended.Reads as reads
 use Rattle.station.proofs.prepended.Lts as lts
 
--- src/lib.rt:107:9
 returns : tie.Need-returns
-returns c = ?
+returns c = rw (eq-eqb _ _ (c .if1 .taken))
 
--- src/lib.rt:103:1
 returns-2 : tie.Need-returns-2
-returns-2 c = ?
+returns-2 c = rw (ne-eqb _ _ (c .if1 .left))
 
 pub prepended-spec : {M : Type 1} → statement M
 prepended-spec = tie.close (tie.spec returns returns-2)

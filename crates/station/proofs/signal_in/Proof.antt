@@ -1,36 +1,31 @@
+-- `station::signal_in` meets its contract. Assumes nothing.
+use borrow.Author.Tests.{eq-eqb, ne-eqb}
 use borrow.Author.Needs.{needs}
 use Rattle.station.proofs.signal_in.Statement.{statement}
 use Rattle.station.proofs.signal_in.Tie as tie
 use Rattle.station.proofs.signal_in.Reads as reads
 use Rattle.station.proofs.signal_in.Lts as lts
 
--- src/lib.rt:39:19
 enum-told : tie.Need-enum-told
 enum-told c = search needs
 
--- src/lib.rt:44:16
 enum-told-2 : tie.Need-enum-told-2
 enum-told-2 c = search needs
 
--- src/lib.rt:45:17
 returns : tie.Need-returns
-returns c = ?
+returns c = rw (c .before .enum-told2 .given .1, eq-eqb _ _ (c .if1 .taken))
 
--- src/lib.rt:52:17
 returns-2 : tie.Need-returns-2
-returns-2 c = ?
+returns-2 c = rw (c .before .before .before .enum-told2 .given .1, ne-eqb _ _ (c .before .before .if1 .left), eq-eqb _ _ (c .before .if2 .taken), c .if3 .taken)
 
--- src/lib.rt:52:17
 returns-3 : tie.Need-returns-3
-returns-3 c = ?
+returns-3 c = rw (c .before .before .before .enum-told2 .given .1, ne-eqb _ _ (c .before .before .if1 .left), eq-eqb _ _ (c .before .if2 .taken), c .if3 .left)
 
--- src/lib.rt:33:1
 returns-4 : tie.Need-returns-4
-returns-4 c = ?
+returns-4 c = simp (c .enum-told .given .1)
 
--- src/lib.rt:33:1
 returns-5 : tie.Need-returns-5
-returns-5 c = ?
+returns-5 c = rw (c .before .before .enum-told2 .given .1, ne-eqb _ _ (c .before .if1 .left), ne-eqb _ _ (c .if2 .left))
 
 pub signal-in-spec : {M : Type 1} → statement M
 signal-in-spec =

@@ -1,3 +1,5 @@
+-- `station::sound_place` meets its contract. Assumes nothing.
+use borrow.Author.Tests.{le-leb, lt-leb}
 use borrow.Author.Needs.{needs}
 use Rattle.station.proofs.sound_place.Statement.{statement}
 use Rattle.station.proofs.sound_place.Tie as tie
@@ -5,75 +7,57 @@ use Rattle.station.proofs.sound_place.Reads as reads
 use Rattle.station.proofs.sound_place.Lts as lts
 use Rattle.station.proofs.first_bad.Reads as first-bad-reads
 
--- src/lib.rt:313:24
 enum-known-place : tie.Need-enum-known-place
 enum-known-place c = search needs
 
--- src/lib.rt:315:18
 first-bad-requires : tie.Need-first-bad-requires
 first-bad-requires c κs = search needs
 
--- src/lib.rt:317:30
 enum-told : tie.Need-enum-told
 enum-told c = search needs
 
--- src/lib.rt:318:27
 enum-told-2 : tie.Need-enum-told-2
 enum-told-2 c = search needs
 
--- src/lib.rt:319:23
 enum-known-place-2 : tie.Need-enum-known-place-2
 enum-known-place-2 c = search needs
 
--- src/lib.rt:322:17
 returns : tie.Need-returns
-returns c = ?
+returns c = rw (c .before .before .place2 .given .1, lt-leb _ _ (c .if1 .taken))
 
--- src/lib.rt:326:32
 enum-told-3 : tie.Need-enum-told-3
 enum-told-3 c = search needs
 
--- src/lib.rt:327:26
 enum-told-4 : tie.Need-enum-told-4
 enum-told-4 c = search needs
 
--- src/lib.rt:328:27
 enum-told-5 : tie.Need-enum-told-5
 enum-told-5 c = search needs
 
--- src/lib.rt:329:24
 enum-told-6 : tie.Need-enum-told-6
 enum-told-6 c = search needs
 
--- src/lib.rt:309:1
 returns-2 : tie.Need-returns-2
-returns-2 c = ?
+returns-2 c = rw (c .before .before .before .place .given .1, c .first-bad .ensures)
 
--- src/lib.rt:309:1
 returns-3 : tie.Need-returns-3
 returns-3 c = search needs
 
--- src/lib.rt:309:1
 returns-4 : tie.Need-returns-4
 returns-4 c = search needs
 
--- src/lib.rt:309:1
 returns-5 : tie.Need-returns-5
-returns-5 c = ?
+returns-5 c = rw (c .before .before .place2 .given .1, le-leb _ _ (c .if1 .left))
 
--- src/lib.rt:309:1
 returns-6 : tie.Need-returns-6
 returns-6 c = search needs
 
--- src/lib.rt:309:1
 returns-7 : tie.Need-returns-7
 returns-7 c = search needs
 
--- src/lib.rt:309:1
 returns-8 : tie.Need-returns-8
 returns-8 c = search needs
 
--- src/lib.rt:309:1
 returns-9 : tie.Need-returns-9
 returns-9 c = search needs
 

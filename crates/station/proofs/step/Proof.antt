@@ -1,3 +1,13 @@
+-- `station::step` meets its contract: the refusals in 01's order, and else what the row says, by the table and its actions.
+-- Assumes nothing.
+use mathlib.Core.Path.{ap, sym, _∙_}
+use borrow.Author.Tests.{not-true, not-false}
+use Rattle.mode_a.specs.Step.{done}
+use Rattle.table.specs.declared.Action.{Action}
+use Rattle.table.specs.Actions.{actionOf}
+use Rattle.moves.specs.Moves.{doingOf}
+use Rattle.moves.proofs.RowLaws.{rows-agree}
+use Rattle.station.proofs.PartLaws.{bad-station, bad-word, step-done}
 use borrow.Author.Needs.{needs}
 use Rattle.station.proofs.step.Statement.{statement}
 use Rattle.station.proofs.step.Tie as tie
@@ -10,41 +20,46 @@ use Rattle.station.proofs.sound.Reads as sound-reads
 use Rattle.table.proofs.action_at.Reads as action-at-reads
 use Rattle.table.proofs.kind_of.Reads as kind-of-reads
 
--- src/lib.rt:362:9
 sound-requires : tie.Need-sound-requires
 sound-requires c κs = search needs
 
--- src/lib.rt:363:9
 returns : tie.Need-returns
-returns c = ?
+returns c =
+    let a = c .before .before in
+    bad-station (a .args .s) (a .args .burst) (a .args .offer) (sym (c .before .sound .ensures) ∙ not-true _ (c .if1 .taken))
 
--- src/lib.rt:365:9
 bad-offer-requires : tie.Need-bad-offer-requires
 bad-offer-requires c κs = search needs
 
--- src/lib.rt:367:9
 returns-2 : tie.Need-returns-2
-returns-2 c = ?
+returns-2 c =
+    let a = c .before .before .before .before in
+    bad-word (a .args .s) (a .args .burst) (a .args .offer) (sym (c .before .before .before .sound .ensures) ∙ not-false _ (c .before .before .if1 .left)) (c .before .bad-offer .result) (c .before .bad-offer .ensures) (c .if2 .taken)
 
--- src/lib.rt:371:42
 kind-of-requires : tie.Need-kind-of-requires
 kind-of-requires c κs = search needs
 
--- src/lib.rt:371:9
 action-at-requires : tie.Need-action-at-requires
 action-at-requires c κs = search needs
 
--- src/lib.rt:372:41
 doing-requires : tie.Need-doing-requires
 doing-requires c κs = search needs
 
--- src/lib.rt:372:19
 done-requires : tie.Need-done-requires
 done-requires c κs = search needs
 
--- src/lib.rt:359:1
 returns-3 : tie.Need-returns-3
-returns-3 c = ?
+returns-3 c =
+    let a = c .before .before .before .before .before .before .before .before in
+    let k = c .before .before .before .kind-of in
+    let t = c .before .before .action-at in
+    let d = c .before .doing in
+    step-done (a .args .s) (a .args .burst) (a .args .offer) (sym (c .before .before .before .before .before .before .before .sound .ensures) ∙ not-false _ (c .before .before .before .before .before .before .if1 .left)) (c .before .before .before .before .before .bad-offer .result) (c .before .before .before .before .before .bad-offer .ensures) (c .before .before .before .before .if2 .left) (c .done .result)
+    (c .done .ensures
+    ∙ ap (done (a .args .s) (a .args .burst) (a .args .offer))
+    (d .ensures
+    ∙ ap (λ (x : Action). doingOf x (a .args .s .role) (a .args .s .place)) (t .ensures ∙ ap (actionOf (a .args .s .place)) (k .ensures))
+    ∙ rows-agree (a .args .s .role) (a .args .s .place) (a .args .burst)))
 
 pub step-spec : {M : Type 1} → statement M
 step-spec =

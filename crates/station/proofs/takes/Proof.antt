@@ -1,3 +1,4 @@
+-- `station::takes` meets its contract. Assumes nothing.
 use borrow.Author.Needs.{needs}
 use Rattle.station.proofs.takes.Statement.{statement}
 use Rattle.station.proofs.takes.Tie as tie
@@ -6,53 +7,41 @@ use Rattle.station.proofs.takes.Lts as lts
 use Rattle.station.proofs.holds.Reads as holds-reads
 use Rattle.station.proofs.moved_to.Reads as moved-to-reads
 
--- src/lib.rt:193:21
 enum-known-offer : tie.Need-enum-known-offer
 enum-known-offer c = search needs
 
--- src/lib.rt:193:31
 holds-requires : tie.Need-holds-requires
 holds-requires c κs = search needs
 
--- src/lib.rt:28:21
 enum-told : tie.Need-enum-told
 enum-told c = search needs
 
--- src/lib.rt:194:24
 holds-requires-2 : tie.Need-holds-requires-2
 holds-requires-2 c κs = search needs
 
--- src/lib.rt:196:17
 enum-told-2 : tie.Need-enum-told-2
 enum-told-2 c = search needs
 
--- src/lib.rt:201:26
 moved-to-requires : tie.Need-moved-to-requires
 moved-to-requires c κs = search needs
 
--- src/lib.rt:30:22
 enum-told-3 : tie.Need-enum-told-3
 enum-told-3 c = search needs
 
--- src/lib.rt:207:27
 holds-requires-3 : tie.Need-holds-requires-3
 holds-requires-3 c κs = search needs
 
--- src/lib.rt:189:1
 returns : tie.Need-returns
-returns c = ?
+returns c = simp (c .holds .ensures, c .before .before .offer .given .1)
 
--- src/lib.rt:189:1
 returns-2 : tie.Need-returns-2
-returns-2 c = ?
+returns-2 c = simp (c .holds2 .ensures, c .before .enum-told .given .1)
 
--- src/lib.rt:189:1
 returns-3 : tie.Need-returns-3
-returns-3 c = ?
+returns-3 c = simp (c .moved-to .ensures, c .before .enum-told2 .given .1)
 
--- src/lib.rt:189:1
 returns-4 : tie.Need-returns-4
-returns-4 c = ?
+returns-4 c = simp (c .holds3 .ensures, c .before .enum-told3 .given .1)
 
 pub takes-spec : {M : Type 1} → statement M
 takes-spec =

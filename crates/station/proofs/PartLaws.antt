@@ -1,0 +1,84 @@
+-- Traffic signals word by word, and the promise of the step at each answer. Assumes nothing.
+use mathlib.Core.Path.{_≡_, refl, ap, sym, _∙_}
+use mathlib.Core.Bool.{Bool, true, false, not}
+use mathlib.Core.List.{List, [], _∷_}
+use Prim.Native.Nat.{ℕ, _<_, _≤_}
+use native.Mathlib.Omega.{arith}
+use lib.Dec.{eqb, ltb}
+use lib.ListN.{length}
+use borrow.Author.Tests.{lt-ltb, le-ltb}
+use Rattle.laws.specs.Choice.{if_then_else_}
+use Rattle.signals.specs.Meaning.{beta, cs3}
+use Rattle.signals.specs.Numbers.{Answer, answered, refused, firstNot}
+use Rattle.mode_a.specs.declared.Words.{Words}
+use Rattle.mode_a.specs.declared.Offer.{Offer}
+use Rattle.mode_a.specs.declared.Station.{Station}
+use Rattle.mode_a.specs.declared.Reply.{Reply}
+use Rattle.mode_a.specs.declared.Stepped.{Stepped}
+use Rattle.mode_a.specs.declared.Number.{Number}
+use Rattle.mode_a.specs.declared.Listening.{Listening}
+use Rattle.mode_a.specs.declared.Place.the-variants.{Asking, Receiving}
+use Rattle.mode_a.specs.Station.{words, listOf, single, silence, other, asksFor}
+use Rattle.mode_a.specs.Heard.{mayHold, heardOf}
+use Rattle.mode_a.specs.Rows.{rowOf}
+use Rattle.mode_a.specs.Over.{listenedAll}
+use Rattle.mode_a.specs.Step.{withoutβ, three, trafficIn, isOver, heardAt, acceptsBy, accepts, done, sound, offered, stepping, Steps}
+use Rattle.station.specs.Parts.{prepended, badOffer}
+
+-- one word more in front
+one-more : (t : Bool) (w : ℕ) (ws : List ℕ) → (if t then three (withoutβ ws) else words w (three (withoutβ ws) .0) (three (withoutβ ws) .1)) ≡ three (if t then withoutβ ws else w ∷ withoutβ ws)
+one-more true w ws = refl
+one-more false w ws = refl
+
+pub prepends : (b : Words) → prepended (b .0) (prepended (b .1) (prepended (b .2) silence)) ≡ trafficIn b
+unfolding trafficIn
+prepends b =
+    ap (λ (r : Words). prepended (b .0) (prepended (b .1) r)) (one-more (eqb (b .2) beta) (b .2) [])
+    ∙ ap (λ (r : Words). prepended (b .0) r) (one-more (eqb (b .1) beta) (b .1) (b .2 ∷ []))
+    ∙ one-more (eqb (b .0) beta) (b .0) (b .1 ∷ b .2 ∷ [])
+
+-- an offer that may not stand, and one that may
+offer-bad : (o : Offer) → badOffer o < 3 → (badOffer o ≡ firstNot mayHold (offered o)) × (ltb (firstNot mayHold (offered o)) (length (offered o)) ≡ true)
+offer-bad (Offer.Text w) h = (refl, lt-ltb (firstNot mayHold (listOf w)) 3 h)
+offer-bad Offer.Over h = absurd (omega arith)
+offer-bad Offer.End h = absurd (omega arith)
+offer-bad Offer.Nothing h = absurd (omega arith)
+
+offer-good : (o : Offer) → 3 ≤ badOffer o → ltb (firstNot mayHold (offered o)) (length (offered o)) ≡ false
+unfolding firstNot
+offer-good (Offer.Text w) h = le-ltb (firstNot mayHold (listOf w)) 3 h
+offer-good Offer.Over h = refl
+offer-good Offer.End h = refl
+offer-good Offer.Nothing h = refl
+
+-- the promise at each answer
+module _ (s : Station) (b : Words) (o : Offer) where
+  pub bad-station : sound s ≡ false → Steps s b o (Stepped.BadStation s)
+  unfolding stepping
+  bad-station e = rw e (refl, refl)
+
+  module _ (e : sound s ≡ true) where
+    pub bad-word : (i : ℕ) → i ≡ badOffer o → i < 3 → Steps s b o (Stepped.BadWord i s)
+    unfolding stepping
+    bad-word i ei h =
+        let p = offer-bad o (rw ei at h) in
+        rw (e, p .1, ← p .0, ← ei) (refl, refl)
+
+    pub step-done : (i : ℕ) → i ≡ badOffer o → 3 ≤ i → (r : Reply) → r ≡ done s b o (rowOf (s .role) (s .place) (heardOf b)) → Steps s b o (Stepped.Done r)
+    unfolding stepping
+    step-done i ei h r er = rw (e, offer-good o (rw ei at h), ← er) (refl, refl)
+
+-- an accepted block: t says whether an over is offered, l what was heard, q is the station then, and p what is printed
+module _ (s : Station) (n : Number) (b : Words) (o : Offer) (t : Bool) (et : t ≡ isOver o) (l : Listening) (el : l ≡ listenedAll (s .case) (s .plus) b) (p : Words) (ep : p ≡ trafficIn b) where
+  by-tests : acceptsBy s n b t l ≡ accepts s n b o
+  by-tests = rw (et, el)
+
+  pub over-offered : t ≡ true → (q : Station) → q ≡ heardAt s Asking l → record { station = q; sent = single cs3; printed = p; taken = true } ≡ accepts s n b o
+  over-offered e q eq = rw (eq, ep) (rw e at by-tests)
+
+  module _ (e : t ≡ false) where
+    pub over-heard : l .over ≡ true → (q : Station) → q ≡ heardAt s Asking l → record { station = q; sent = single cs3; printed = p; taken = false } ≡ accepts s n b o
+    over-heard v q eq = rw (eq, ep) (rw (e, v) at by-tests)
+
+    pub goes-on : l .over ≡ false → (m : Number) → m ≡ other n → (q : Station) → q ≡ heardAt s (Receiving m) l → (w : Words) → w ≡ asksFor m → record { station = q; sent = w; printed = p; taken = false } ≡ accepts s n b o
+    goes-on v m em q eq w ew = rw (eq, ep, ew, em) (rw (e, v) at by-tests)
