@@ -1,0 +1,121 @@
+-- The repetition count of every run from a fresh station.  R-096 to R-100
+--     counted   for a fresh master, for a fresh slave, and for any station that starts with count 0 at a place other than Lost
+-- Assumes nothing.
+use mathlib.Core.Path.{_≡_, refl, ap, sym, _∙_}
+use mathlib.Core.Bool.{Bool, true, false, not, _&&_}
+use mathlib.Core.List.{List, [], _∷_}
+use Prim.Native.Nat.{ℕ, suc, _+_, _≤_}
+use native.Mathlib.Omega.{arith}
+use native.Mathlib.Numerals.{add-one}
+use lib.Dec.{eqb, leb, ltb}
+use lib.ListN.{length}
+use borrow.Author.Tests.{leb-true, leb-false, eq-eqb, ne-eqb, le-leb, lt-leb}
+use Rattle.laws.specs.Choice.{if_then_else_}
+use Rattle.signals.specs.Numbers.{Answer, answered, refused, firstNot}
+use Rattle.mode_a.specs.declared.Words.{Words}
+use Rattle.mode_a.specs.declared.Offer.{Offer}
+use Rattle.mode_a.specs.declared.Station.{Station}
+use Rattle.mode_a.specs.declared.Reply.{Reply}
+use Rattle.mode_a.specs.Station.{freshMaster, freshSlave}
+use Rattle.mode_a.specs.Heard.{mayHold, heardOf}
+use Rattle.mode_a.specs.Rows.{rowOf}
+use Rattle.mode_a.specs.Step.{done, sound, offered, stepping, stationAfter}
+use Rattle.counts.specs.Runs.{Event, after, isLost, repetition, goesOn, inARow}
+use Rattle.counts.specs.Counts.{Counted}
+use Rattle.counts.proofs.StepLaws.{Fact, step-fact, isRepeats}
+
+-- an answer is what the row did
+answered-is : (s : Station) (b : Words) (o : Offer) (r : Reply) → stepping s b o ≡ answered r → r ≡ done s b o (rowOf (s .role) (s .place) (heardOf b))
+unfolding stepping
+answered-is s b o r e = go (sound s) (ltb (firstNot mayHold (offered o)) (length (offered o))) e
+  where
+    go : (p q : Bool) → _≡_ {A = Answer Reply} (if not p then refused 4 0 else if q then refused 3 (firstNot mayHold (offered o)) else answered (done s b o (rowOf (s .role) (s .place) (heardOf b)))) (answered r) → r ≡ done s b o (rowOf (s .role) (s .place) (heardOf b))
+    go false q e = let z : _≡_ {A = ℕ} 0 1 = cc in absurd (omega arith)
+    go true true e = let z : _≡_ {A = ℕ} 0 1 = cc in absurd (omega arith)
+    go true false e = cc
+
+fact-of : (s : Station) (b : Words) (o : Offer) (r : Reply) → stepping s b o ≡ answered r → Fact s (heardOf b) (rowOf (s .role) (s .place) (heardOf b)) r
+fact-of s b o r e = rw (answered-is s b o r e) (step-fact s b o (heardOf b))
+
+-- what is kept from step to step: k repetitions in a row
+record Kept (s : Station) (k : ℕ) : Type 0 where
+  counts : isLost (s .place) ≡ false → s .count ≡ k
+  small : isLost (s .place) ≡ false → k ≤ 31
+  zero-lost : isLost (s .place) ≡ true → s .count ≡ 0
+
+never : {A : Type 0} → true ≡ false → A
+never e = let z : _≡_ {A = ℕ} 0 1 = cc in absurd (omega arith)
+
+module _ (s : Station) (k : ℕ) (kept : Kept s k) (b : Words) (o : Offer) (r : Reply) (f : Fact s (heardOf b) (rowOf (s .role) (s .place) (heardOf b)) r) where
+  -- not Lost before: Lost exactly by the 32nd
+  by-32 : isLost (s .place) ≡ false → isLost (r .station .place) ≡ repetition (s .place) (heardOf b) (r .station .place) && eqb k 31
+  by-32 nl = rw (f .told) (go (isRepeats (rowOf (s .role) (s .place) (heardOf b))) refl)
+    where
+      go : (t : Bool) → isRepeats (rowOf (s .role) (s .place) (heardOf b)) ≡ t → isLost (r .station .place) ≡ t && eqb k 31
+      go true e = f .repeated e .0 ∙ rw (kept .counts nl) (tests (leb 31 k) refl)
+        where
+          tests : (v : Bool) → leb 31 k ≡ v → v ≡ eqb k 31
+          tests true p = let h = leb-true 31 k p in let l = kept .small nl in sym (eq-eqb k 31 (omega arith))
+          tests false p = let h = leb-false 31 k p in sym (ne-eqb k 31 (λ e. omega arith))
+      go false e = f .no-lost e nl
+
+  next : Kept (r .station) (if repetition (s .place) (heardOf b) (r .station .place) then suc k else 0)
+  next = rw (f .told) (go (isRepeats (rowOf (s .role) (s .place) (heardOf b))) (isLost (s .place)) refl refl)
+    where
+      go : (t l : Bool) → isRepeats (rowOf (s .role) (s .place) (heardOf b)) ≡ t → isLost (s .place) ≡ l → Kept (r .station) (if t then suc k else 0)
+      go true true e l = never (sym e ∙ f .stays-lost l .0)
+      go true false e l = tests (leb 31 (s .count)) refl
+        where
+          tests : (v : Bool) → leb 31 (s .count) ≡ v → Kept (r .station) (suc k)
+          tests true p =
+              record {
+                counts = λ x. never (sym (rw p at (f .repeated e .0)) ∙ x);
+                small = λ x. never (sym (rw p at (f .repeated e .0)) ∙ x);
+                zero-lost = λ x. rw p at (f .repeated e .1);
+              }
+          tests false p =
+              record {
+                counts = λ x. (rw p at (f .repeated e .1)) ∙ add-one (s .count) ∙ ap suc (kept .counts l);
+                small = λ x. let h = leb-false 31 (s .count) p in let i = kept .counts l in omega arith;
+                zero-lost = λ x. never (sym x ∙ (rw p at (f .repeated e .0)));
+              }
+      go false l e p =
+          record { counts = λ x. f .moved e; small = λ x. omega arith; zero-lost = λ x. f .moved e }
+
+-- once Lost, Lost for good
+for-good : (fresh : Station) (run : List Event) (e : Event) → isLost (after fresh run .place) ≡ true → isLost (after fresh (e ∷ run) .place) ≡ true
+unfolding after
+for-good fresh run e l = go (stepping (after fresh run) (e .burst) (e .offer)) refl
+  where
+    go : (a : Answer Reply) → stepping (after fresh run) (e .burst) (e .offer) ≡ a → isLost (stationAfter (after fresh run) a .place) ≡ true
+    go (answered r) p = fact-of (after fresh run) (e .burst) (e .offer) r p .stays-lost l .1
+    go (refused n v) p = l
+
+module _ (fresh : Station) (start : fresh .count ≡ 0) (open-place : isLost (fresh .place) ≡ false) where
+  kept-run : (run : List Event) → Kept (after fresh run) (inARow fresh run)
+  unfolding after inARow
+  kept-run [] =
+      record { counts = λ x. start; small = λ x. omega arith; zero-lost = λ x. start }
+  kept-run (e ∷ es) = go (kept-run es) (stepping (after fresh es) (e .burst) (e .offer)) refl
+    where
+      go : Kept (after fresh es) (inARow fresh es) → (a : Answer Reply) → stepping (after fresh es) (e .burst) (e .offer) ≡ a → Kept (stationAfter (after fresh es) a) (goesOn a (after fresh es .place) (heardOf (e .burst)) (inARow fresh es))
+      go k (answered r) p =
+          next (after fresh es) (inARow fresh es) k (e .burst) (e .offer) r (fact-of (after fresh es) (e .burst) (e .offer) r p)
+      go k (refused n v) p = k
+
+  pub counted : (run : List Event) → Counted fresh run
+  counted run =
+      record {
+        counts = kept-run run .counts;
+        at-most = kept-run run .small;
+        lost-counts = kept-run run .zero-lost;
+        lost-by-the-32nd = λ e r p nl. by-32 (after fresh run) (inARow fresh run) (kept-run run) (e .burst) (e .offer) r (fact-of (after fresh run) (e .burst) (e .offer) r p) nl;
+        lost-is-silent = λ e r p l. fact-of (after fresh run) (e .burst) (e .offer) r p .silent l;
+        lost-for-good = for-good fresh run;
+      }
+
+pub master-counted : (run : List Event) → Counted freshMaster run
+master-counted = counted freshMaster refl refl
+
+pub slave-counted : (run : List Event) → Counted freshSlave run
+slave-counted = counted freshSlave refl refl

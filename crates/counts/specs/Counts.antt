@@ -1,0 +1,28 @@
+-- 01, The station: "The 32nd makes it Lost and silent, with no offer taken. Then, and after every other step, the count is 0."
+-- R-096 to R-100, as one statement about every run from a fresh station.
+-- Assumes nothing.
+use mathlib.Core.Path.{_≡_}
+use mathlib.Core.Bool.{Bool, true, false, _&&_, _||_}
+use mathlib.Core.List.{List, _∷_}
+use Prim.Native.Nat.{ℕ, _≤_}
+use lib.Dec.{eqb}
+use Rattle.signals.specs.Numbers.{answered}
+use Rattle.mode_a.specs.declared.Station.{Station}
+use Rattle.mode_a.specs.declared.Reply.{Reply}
+use Rattle.mode_a.specs.Station.{silence}
+use Rattle.mode_a.specs.Heard.{heardOf}
+use Rattle.mode_a.specs.Step.{stepping}
+use Rattle.counts.specs.Runs.{Event, after, isLost, repetition, inARow}
+
+pub record Counted (fresh : Station) (run : List Event) : Type 0 where
+  -- while the station is not Lost, its count is the number of repetitions in a row that the run ends in, 31 at most
+  pub counts : isLost (after fresh run .place) ≡ false → after fresh run .count ≡ inARow fresh run
+  pub at-most : isLost (after fresh run .place) ≡ false → inARow fresh run ≤ 31
+  -- Lost, it is 0
+  pub lost-counts : isLost (after fresh run .place) ≡ true → after fresh run .count ≡ 0
+  -- a step makes a station Lost exactly where it is the 32nd repetition in a row
+  pub lost-by-the-32nd : (e : Event) (r : Reply) → stepping (after fresh run) (e .burst) (e .offer) ≡ answered r → isLost (after fresh run .place) ≡ false → isLost (r .station .place) ≡ repetition (after fresh run .place) (heardOf (e .burst)) (r .station .place) && eqb (inARow fresh run) 31
+  -- it is then silent, and takes no offer
+  pub lost-is-silent : (e : Event) (r : Reply) → stepping (after fresh run) (e .burst) (e .offer) ≡ answered r → isLost (r .station .place) ≡ true → (r .sent ≡ silence) × (r .printed ≡ silence) × (r .taken ≡ false)
+  -- and once Lost it stays so
+  pub lost-for-good : (e : Event) → isLost (after fresh run .place) ≡ true → isLost (after fresh (e ∷ run) .place) ≡ true

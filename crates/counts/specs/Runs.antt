@@ -1,0 +1,105 @@
+-- 01, The station: "Repetition count: steps in a row, at Sending, Turning, Opening, Receiving or Asking, in which the station
+-- neither changes place, nor confirms, nor accepts."  R-096
+--
+-- Whether a step is such a repetition is told from what was heard and from the places before and after it. The count is looked at
+-- nowhere here.
+-- Assumes nothing.
+use mathlib.Core.Bool.{Bool, true, false, not, _&&_, _||_}
+use mathlib.Core.List.{List, [], _∷_}
+use Prim.Native.Nat.{ℕ, suc}
+use lib.Dec.{eqb}
+use Rattle.laws.specs.Choice.{if_then_else_}
+use Rattle.signals.specs.Numbers.{Answer, answered, refused}
+use Rattle.mode_a.specs.declared.Words.{Words}
+use Rattle.mode_a.specs.declared.Held.{Held}
+use Rattle.mode_a.specs.declared.Place.{Place}
+use Rattle.mode_a.specs.declared.Place.the-variants.{Sending, Turning, Opening, Ending, Receiving, Asking, StandBy, Lost}
+use Rattle.mode_a.specs.declared.Offer.{Offer}
+use Rattle.mode_a.specs.declared.Station.{Station}
+use Rattle.mode_a.specs.declared.Reply.{Reply}
+use Rattle.mode_a.specs.Station.{same}
+use Rattle.mode_a.specs.Heard.{First, Cs, Cs3, Rq, Else, Heard, heardOf}
+use Rattle.mode_a.specs.Step.{stepping, stationAfter}
+
+-- what a station hears and is offered
+pub record Event : Type 0 where
+  pub burst : Words
+  pub offer : Offer
+
+-- the station after a run, the latest event first. A refusal is no step, and leaves the station as it was.
+unfoldable pub after : Station → List Event → Station
+after s [] = s
+after s (e ∷ es) = stationAfter (after s es) (stepping (after s es) (e .burst) (e .offer))
+
+-- "at Sending, Turning, Opening, Receiving or Asking"
+abbrev pub counting : Place → Bool
+counting (Sending h) = true
+counting (Turning n) = true
+counting Opening = true
+counting (Ending e) = false
+counting (Receiving n) = true
+counting Asking = true
+counting StandBy = false
+counting Lost = false
+
+-- the number of a place in 01's order, whatever the place carries
+abbrev pub placeNo : Place → ℕ
+placeNo (Sending h) = 0
+placeNo (Turning n) = 1
+placeNo Opening = 2
+placeNo (Ending e) = 3
+placeNo (Receiving n) = 4
+placeNo Asking = 5
+placeNo StandBy = 6
+placeNo Lost = 7
+
+-- "changes place"
+abbrev pub changed : Place → Place → Bool
+changed p p′ = not (eqb (placeNo p) (placeNo p′))
+
+-- "confirms": Sending that hears the control signal of the other number, or CS3
+abbrev pub confirming : Held → First → Bool
+confirming h (Cs n) = not (same n (h .number))
+confirming h Cs3 = true
+confirming h Rq = false
+confirming h Else = false
+
+abbrev pub confirms : Place → Heard → Bool
+confirms (Sending b) h = confirming b (h .first)
+confirms (Turning n) h = false
+confirms Opening h = false
+confirms (Ending e) h = false
+confirms (Receiving n) h = false
+confirms Asking h = false
+confirms StandBy h = false
+confirms Lost h = false
+
+-- "accepts": Receiving that hears a block
+abbrev pub accepting : Place → Heard → Bool
+accepting (Sending b) h = false
+accepting (Turning n) h = false
+accepting Opening h = false
+accepting (Ending e) h = false
+accepting (Receiving n) h = h .block
+accepting Asking h = false
+accepting StandBy h = false
+accepting Lost h = false
+
+abbrev pub isLost : Place → Bool
+isLost p = eqb (placeNo p) 7
+
+-- a repetition: at one of the five places, neither confirming nor accepting, and the place is the same afterwards, unless this is
+-- the step that made the station Lost
+unfoldable pub repetition : Place → Heard → Place → Bool
+repetition p h p′ =
+    counting p && (not (confirms p h) && (not (accepting p h) && (not (changed p p′) || isLost p′)))
+
+-- how many repetitions in a row the run ends in; a refusal is no step and is passed over
+abbrev pub goesOn : Answer Reply → Place → Heard → ℕ → ℕ
+goesOn (answered r) p h k = if repetition p h (r .station .place) then suc k else 0
+goesOn (refused n v) p h k = k
+
+unfoldable pub inARow : Station → List Event → ℕ
+inARow s [] = 0
+inARow s (e ∷ es) =
+    goesOn (stepping (after s es) (e .burst) (e .offer)) (after s es .place) (heardOf (e .burst)) (inARow s es)
