@@ -1,14 +1,17 @@
 -- 01's examples marked P hold: one statement, which antt computes. Assumes nothing.
 use lib.Dec.{T}
-use lib.Count.{ones}
 use Rattle.signals.specs.Units.{intactOf, onesOf}
-use Rattle.signals.specs.Meaning.{meaningOf}
+use Rattle.signals.specs.Meaning.{meaningOf, trafficOf}
 use Rattle.signals.specs.Numbers.{firstNot}
 use Rattle.text.specs.Encoding.{characterOf, encoded, endsEncoded, encoding}
+use Rattle.mode_a.specs.Heard.{firstOf, mayHold, isBlock, isWords, heardOf}
+use Rattle.mode_a.specs.Over.{listened}
+use Rattle.mode_a.specs.Step.{trafficIn, done, sound, stepping}
 use Rattle.examples.specs.Code.{codeExamples}
 use Rattle.examples.specs.Text.{textExamples}
+use Rattle.examples.specs.ModeA.{modeAExamples}
 use Rattle.examples.specs.Examples.{examples, holds}
 
 pub examples-hold : T (holds examples)
-unfolding holds examples codeExamples textExamples intactOf onesOf meaningOf firstNot characterOf encoded endsEncoded encoding
+unfolding holds examples codeExamples textExamples modeAExamples trafficOf firstOf mayHold isBlock isWords heardOf listened trafficIn done sound stepping intactOf onesOf meaningOf firstNot characterOf encoded endsEncoded encoding
 examples-hold = tt

@@ -5,9 +5,10 @@ use mathlib.Core.Bool.{Bool, true, _&&_}
 use mathlib.Core.List.{List, [], _∷_, _++_}
 use Rattle.examples.specs.Code.{codeExamples}
 use Rattle.examples.specs.Text.{textExamples}
+use Rattle.examples.specs.ModeA.{modeAExamples}
 
 unfoldable pub examples : List Bool
-examples = codeExamples ++ textExamples
+examples = codeExamples ++ textExamples ++ modeAExamples
 
 unfoldable pub holds : List Bool → Bool
 holds [] = true

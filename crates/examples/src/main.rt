@@ -1,4 +1,11 @@
 // Runs 01's worked examples that are not proved, and the limit of printing, and writes what each gives.
+use mode_a::Number;
+use mode_a::Offer;
+use mode_a::Place;
+use mode_a::Role;
+use mode_a::Station;
+use mode_a::Stepped;
+use mode_a::Words;
 use signals::Case;
 use text::Encoded;
 use text::Printed;
@@ -53,8 +60,79 @@ fn print_limits() {
     write_printed(printing::print(&[71u8; 8193], Case::Letters, &mut room));
 }
 
+fn write_place(place: Place) {
+    match place {
+        Place::Sending(_) => {
+            io::write_all(1, b"Sending\n");
+        }
+        Place::Turning(_) => {
+            io::write_all(1, b"Turning\n");
+        }
+        Place::Opening => {
+            io::write_all(1, b"Opening\n");
+        }
+        Place::Ending(_) => {
+            io::write_all(1, b"Ending\n");
+        }
+        Place::Receiving(_) => {
+            io::write_all(1, b"Receiving\n");
+        }
+        Place::Asking => {
+            io::write_all(1, b"Asking\n");
+        }
+        Place::StandBy => {
+            io::write_all(1, b"Stand-by\n");
+        }
+        Place::Lost => {
+            io::write_all(1, b"Lost\n");
+        }
+    }
+}
+
+// How many signals a step printed, and the place it leads to.
+fn write_stepped(stepped: Stepped) {
+    match stepped {
+        Stepped::Done(reply) => {
+            let station = reply.station;
+            let printed = reply.printed;
+            if printed.0 == 0 {
+                io::write_all(1, b"nothing printed, ");
+            } else {
+                io::write_all(1, b"accepted and printed, ");
+            }
+            write_place(station.place);
+        }
+        Stepped::BadStation(_) => {
+            io::write_all(1, b"refused 4 0\n");
+        }
+        Stepped::BadWord(index, _) => {
+            filters::write_refusal(1, 3, index as u64);
+            io::write_all(1, b"\n");
+        }
+    }
+}
+
+// A slave that has repeated 31 times.
+fn repeated_31() -> Station {
+    Station {
+        role: Role::Slave,
+        place: Place::Receiving(Number::One),
+        count: 31,
+        case: Case::Letters,
+        plus: false,
+    }
+}
+
+fn count_31() {
+    io::write_all(1, b"count 31 and a good block: ");
+    write_stepped(station::step(repeated_31(), Words(116, 86, 51), Offer::Nothing));
+    io::write_all(1, b"count 31 and a bad one: ");
+    write_stepped(station::step(repeated_31(), Words(116, 0, 51), Offer::Nothing));
+}
+
 fn main() {
     text();
     encode_limits();
     print_limits();
+    count_31();
 }

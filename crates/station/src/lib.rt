@@ -99,14 +99,14 @@ fn listened_all(case: Case, plus: bool, b: Words) -> Listening
     listened(listened(listened(before, b.0), b.1), b.2)
 }
 
-// The word before the others, unless it is β.
-fn prepended(word: u8, rest: Words) -> Words
-    ensures { λ r. ⌜ r ≡ prepended word rest ⌝ }
+// The signal before the others, unless it is β.
+fn prepended(signal: u8, rest: Words) -> Words
+    ensures { λ r. ⌜ r ≡ prepended signal rest ⌝ }
 {
-    if word == signals::BETA {
+    if signal == signals::BETA {
         return rest;
     }
-    Words(word, rest.0, rest.1)
+    Words(signal, rest.0, rest.1)
 }
 
 // The traffic signals of a block, in order, with 0 behind them.

@@ -1,0 +1,115 @@
+-- Wrong stations that have another shape than the right one, so that no edit of one operand makes them. Of each, a station, a burst
+-- and an offer at which what the promise says is not what it would do: computed, not argued.
+--     no-refusing-station        one that refuses every step
+--     no-constant-rq             one that always sends RQ
+--     no-first-step-again        one that is right at its first step and then repeats itself
+--     no-repeat-by-content       a repeat told by its content: two equal blocks in succession are two blocks
+--     no-over-unaccepted         an over offered at Receiving acted on for a block that was not accepted
+--     no-block-for-rq            Sending that sends the block again where RQ RQ RQ is due
+--     no-own-number-at-turning   Turning that asks for the number that its last block had
+--     no-order-3-4               a bad offer told before a bad station
+--     no-offer-unjudged          a text offer that is judged only where it would be taken
+-- Assumes nothing.
+use mathlib.Core.Path.{_≡_, refl, ap, sym, _∙_}
+use mathlib.Core.Bool.{Bool, true, false}
+use Prim.Native.Nat.{ℕ}
+use native.Mathlib.Omega.{arith}
+use Rattle.signals.specs.declared.Case.the-variants.{Letters, Figures}
+use Rattle.signals.specs.Meaning.{meaningOf, trafficOf}
+use Rattle.signals.specs.Numbers.{Answer, answered, refused, firstNot}
+use Rattle.mode_a.specs.declared.Role.the-variants.{Master, Slave}
+use Rattle.mode_a.specs.declared.Number.{Number}
+use Rattle.mode_a.specs.declared.Number.the-variants.{One, Two}
+use Rattle.mode_a.specs.declared.Words.{Words}
+use Rattle.mode_a.specs.declared.Place.{Place}
+use Rattle.mode_a.specs.declared.Place.the-variants.{Sending, Turning, Opening, Ending, Receiving, Asking, StandBy, Lost}
+use Rattle.mode_a.specs.declared.Offer.{Offer}
+use Rattle.mode_a.specs.declared.Station.{Station}
+use Rattle.mode_a.specs.declared.Reply.{Reply}
+use Rattle.mode_a.specs.declared.Stepped.{Stepped}
+use Rattle.mode_a.specs.Station.{words, single, silence, RQ×3, asksFor, freshSlave}
+use Rattle.mode_a.specs.Heard.{firstOf, mayHold, isBlock, isWords, heardOf}
+use Rattle.mode_a.specs.Over.{listened}
+use Rattle.mode_a.specs.Step.{trafficIn, done, sound, stepping, Steps}
+
+-- a slave that has accepted a block, and one at each place
+abbrev slaveAt : Place → ℕ → Station
+slaveAt p k = record { role = Slave; place = p; count = k; case = Letters; plus = false }
+
+-- T E A, and a burst with a damaged word
+abbrev tea : Words
+tea = words 116 86 71
+
+abbrev damaged : Words
+damaged = words 116 0 71
+
+-- the parts of an answer
+abbrev sentIn : Answer Reply → Words
+sentIn (answered r) = r .sent
+sentIn (refused n v) = silence
+
+abbrev printedIn : Answer Reply → Words
+printedIn (answered r) = r .printed
+printedIn (refused n v) = silence
+
+abbrev takenIn : Answer Reply → Bool
+takenIn (answered r) = r .taken
+takenIn (refused n v) = false
+
+abbrev numberIn : Answer Reply → ℕ
+numberIn (answered r) = 0
+numberIn (refused n v) = n
+
+-- the first word sent, or printed, is the one that the promise says
+module _ (s : Station) (b : Words) (o : Offer) (r : Reply) (p : Steps s b o (Stepped.Done r)) (w : Words) where
+  sent-is : r .sent ≡ w → w .0 ≡ sentIn (stepping s b o) .0
+  sent-is e = ap (λ (w : Words). w .0) (sym e ∙ ap sentIn (p .0))
+
+  printed-is : r .printed ≡ w → w .0 ≡ printedIn (stepping s b o) .0
+  printed-is e = ap (λ (w : Words). w .0) (sym e ∙ ap printedIn (p .0))
+
+apart : true ≡ false → ⊥
+apart e = let z : _≡_ {A = ℕ} 0 1 = cc in omega arith
+
+pub no-refusing-station : (s : Station) → Steps freshSlave tea Offer.Nothing (Stepped.BadStation s) → ⊥
+unfolding stepping sound heardOf firstOf mayHold trafficOf meaningOf isBlock isWords firstNot done listened trafficIn
+no-refusing-station s p = let z : _≡_ {A = ℕ} 4 0 = ap numberIn (p .0) in omega arith
+
+pub no-constant-rq : (r : Reply) → r .sent ≡ RQ×3 → Steps freshSlave tea Offer.Nothing (Stepped.Done r) → ⊥
+unfolding stepping sound heardOf firstOf mayHold trafficOf meaningOf isBlock isWords firstNot done listened trafficIn
+no-constant-rq r e p = let z : _≡_ {A = ℕ} 102 106 = sent-is freshSlave tea Offer.Nothing r p RQ×3 e in omega arith
+
+-- the second of two blocks: CS1 is due, and not CS2 once more
+pub no-first-step-again : (r : Reply) → r .sent ≡ asksFor Two → Steps (slaveAt (Receiving Two) 0) tea Offer.Nothing (Stepped.Done r) → ⊥
+unfolding stepping sound heardOf firstOf mayHold trafficOf meaningOf isBlock isWords firstNot done listened trafficIn
+no-first-step-again r e p =
+    let z : _≡_ {A = ℕ} 106 101 = sent-is (slaveAt (Receiving Two) 0) tea Offer.Nothing r p (asksFor Two) e in omega arith
+
+-- the block that was heard before comes again under the other number, and is printed again
+pub no-repeat-by-content : (r : Reply) → r .printed ≡ silence → Steps (slaveAt (Receiving Two) 0) tea Offer.Nothing (Stepped.Done r) → ⊥
+unfolding stepping sound heardOf firstOf mayHold trafficOf meaningOf isBlock isWords firstNot done listened trafficIn
+no-repeat-by-content r e p =
+    let z : _≡_ {A = ℕ} 0 116 = printed-is (slaveAt (Receiving Two) 0) tea Offer.Nothing r p silence e in omega arith
+
+pub no-over-unaccepted : (r : Reply) → r .taken ≡ true → Steps (slaveAt (Receiving One) 0) damaged Offer.Over (Stepped.Done r) → ⊥
+unfolding stepping sound heardOf firstOf mayHold trafficOf meaningOf isBlock isWords firstNot done listened trafficIn
+no-over-unaccepted r e p = apart (sym e ∙ ap takenIn (p .0))
+
+pub no-block-for-rq : (r : Reply) → r .sent ≡ tea → Steps (slaveAt (Sending (record { number = One; block = tea })) 0) silence Offer.Nothing (Stepped.Done r) → ⊥
+unfolding stepping sound heardOf firstOf mayHold trafficOf meaningOf isBlock isWords firstNot done listened trafficIn
+no-block-for-rq r e p =
+    let z : _≡_ {A = ℕ} 116 102 = sent-is (slaveAt (Sending (record { number = One; block = tea })) 0) silence Offer.Nothing r p tea e in omega arith
+
+pub no-own-number-at-turning : (r : Reply) → r .sent ≡ asksFor One → Steps (slaveAt (Turning One) 0) RQ×3 Offer.Nothing (Stepped.Done r) → ⊥
+unfolding stepping sound heardOf firstOf mayHold trafficOf meaningOf isBlock isWords firstNot done listened trafficIn
+no-own-number-at-turning r e p =
+    let z : _≡_ {A = ℕ} 101 106 = sent-is (slaveAt (Turning One) 0) RQ×3 Offer.Nothing r p (asksFor One) e in omega arith
+
+pub no-order-3-4 : (s : Station) → Steps (slaveAt Lost 32) silence (Offer.Text silence) (Stepped.BadWord 0 s) → ⊥
+unfolding stepping sound firstNot
+no-order-3-4 s p = let z : _≡_ {A = ℕ} 3 4 = ap numberIn (p .0) in omega arith
+
+-- at Stand-by, where no offer is taken
+pub no-offer-unjudged : (r : Reply) → Steps (slaveAt StandBy 0) silence (Offer.Text (words 116 102 71)) (Stepped.Done r) → ⊥
+unfolding stepping sound mayHold trafficOf meaningOf firstNot
+no-offer-unjudged r p = let z : _≡_ {A = ℕ} 0 3 = ap numberIn (p .0) in omega arith

@@ -1,0 +1,35 @@
+-- No second answer: the promises of `step`, `fresh_master` and `fresh_slave`, as their contracts cite them, leave one. Assumes nothing.
+use mathlib.Core.Path.{_≡_, refl, ap₂, sym, _∙_}
+use lib.Dec.{eqb}
+use Rattle.laws.specs.Choice.{if_then_else_}
+use Rattle.laws.proofs.Unique.{unique}
+use Rattle.signals.specs.Numbers.{Answer, answered, refused}
+use Rattle.mode_a.specs.declared.Words.{Words}
+use Rattle.mode_a.specs.declared.Offer.{Offer}
+use Rattle.mode_a.specs.declared.Station.{Station}
+use Rattle.mode_a.specs.declared.Reply.{Reply}
+use Rattle.mode_a.specs.declared.Stepped.{Stepped}
+use Rattle.mode_a.specs.Station.{freshMaster, freshSlave}
+use Rattle.mode_a.specs.Step.{saidStepped, handedBack, Steps}
+
+-- the answer, read back from 01's number and value and the station handed back
+abbrev steppedFrom : Answer Reply → Station → Stepped
+steppedFrom (answered r) s = Stepped.Done r
+steppedFrom (refused n v) s = if eqb n 4 then Stepped.BadStation s else Stepped.BadWord v s
+
+stepped-back : (r : Stepped) → steppedFrom (saidStepped r) (handedBack r) ≡ r
+stepped-back (Stepped.Done r) = refl
+stepped-back (Stepped.BadStation s) = refl
+stepped-back (Stepped.BadWord i s) = refl
+
+pub step-unique : (s : Station) (b : Words) (o : Offer) (r r′ : Stepped) → Steps s b o r → Steps s b o r′ → r ≡ r′
+step-unique s b o r r′ p q =
+    sym (stepped-back r)
+    ∙ ap₂ steppedFrom (unique (p .0) (q .0)) (unique (p .1) (q .1))
+    ∙ stepped-back r′
+
+pub fresh-master-unique : (r r′ : Station) → r ≡ freshMaster → r′ ≡ freshMaster → r ≡ r′
+fresh-master-unique r r′ p q = unique p q
+
+pub fresh-slave-unique : (r r′ : Station) → r ≡ freshSlave → r′ ≡ freshSlave → r ≡ r′
+fresh-slave-unique r r′ p q = unique p q
