@@ -1,9 +1,9 @@
 -- One step: it is a repetition exactly where the row repeats, and what that does to the count and to the place. Assumes nothing.
-use mathlib.Core.Path.{_≡_, refl, ap, sym, _∙_}
-use mathlib.Core.Bool.{Bool, true, false, not, _&&_, _||_}
-use Prim.Native.Nat.{ℕ, suc, _+_}
+use mathlib.Core.Path.{_≡_, refl, sym, _∙_}
+use mathlib.Core.Bool.{Bool, true, false}
+use Prim.Native.Nat.{ℕ, _+_}
 use native.Mathlib.Omega.{arith}
-use lib.Dec.{eqb, leb}
+use lib.Dec.{leb}
 use Rattle.laws.specs.Choice.{if_then_else_}
 use Rattle.signals.specs.declared.Case.{Case}
 use Rattle.mode_a.specs.declared.Role.{Role}
@@ -11,13 +11,10 @@ use Rattle.mode_a.specs.declared.Role.the-variants.{Master, Slave}
 use Rattle.mode_a.specs.declared.Number.{Number}
 use Rattle.mode_a.specs.declared.Number.the-variants.{One, Two}
 use Rattle.mode_a.specs.declared.Words.{Words}
-use Rattle.mode_a.specs.declared.Held.{Held}
-use Rattle.mode_a.specs.declared.Ended.{Ended}
 use Rattle.mode_a.specs.declared.Place.{Place}
 use Rattle.mode_a.specs.declared.Place.the-variants.{Sending, Turning, Opening, Ending, Receiving, Asking, StandBy, Lost}
 use Rattle.mode_a.specs.declared.Offer.{Offer}
 use Rattle.mode_a.specs.declared.Station.{Station}
-use Rattle.mode_a.specs.declared.Listening.{Listening}
 use Rattle.mode_a.specs.declared.Doing.{Doing}
 use Rattle.mode_a.specs.declared.Doing.the-variants.{Repeats, Goes, Takes, Receives, Opens, Accepts}
 use Rattle.mode_a.specs.declared.Reply.{Reply}
@@ -26,7 +23,7 @@ use Rattle.mode_a.specs.Heard.{First, Cs, Cs3, Rq, Else, Heard}
 use Rattle.mode_a.specs.Over.{listenedAll}
 use Rattle.mode_a.specs.Rows.{rowOf, sending, turning, opening, endsAgain, ending, receiving, asking}
 use Rattle.mode_a.specs.Step.{done, takes, accepts, acceptsBy, isOver}
-use Rattle.counts.specs.Runs.{isLost, repetition, changed}
+use Rattle.counts.specs.Runs.{isLost, repetition}
 
 abbrev pub isRepeats : Doing → Bool
 isRepeats (Repeats w) = true

@@ -2,9 +2,9 @@
 -- R-096 to R-100, as one statement about every run from a fresh station.
 -- Assumes nothing.
 use mathlib.Core.Path.{_≡_}
-use mathlib.Core.Bool.{Bool, true, false, _&&_, _||_}
+use mathlib.Core.Bool.{true, false, _&&_}
 use mathlib.Core.List.{List, _∷_}
-use Prim.Native.Nat.{ℕ, _≤_}
+use Prim.Native.Nat.{_≤_}
 use lib.Dec.{eqb}
 use Rattle.signals.specs.Numbers.{answered}
 use Rattle.mode_a.specs.declared.Station.{Station}

@@ -1,10 +1,9 @@
 -- A byte's character, read off the row of the signal that has it: one test that antt computes over all 256 bytes.
 -- Assumes nothing.
 use mathlib.Core.Path.{_≡_, refl, ap, sym, _∙_}
-use mathlib.Core.Bool.{Bool, true, false}
 use Prim.Native.Nat.{ℕ, zero, suc, _-_, _<_, _≤_}
 use native.Mathlib.Numerals.{sub-one}
-use lib.Dec.{T, eqb, leb, leb→le}
+use lib.Dec.{eqb, leb, leb→le}
 use borrow.Author.Tests.{eq-eqb, ne-eqb}
 use Rattle.laws.specs.Choice.{if_then_else_}
 use Rattle.laws.proofs.Below.{at-below}

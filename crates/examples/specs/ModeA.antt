@@ -1,6 +1,6 @@
 -- 01, Worked examples: "P: Sending 1, count 0, hears CS1, repeats; CS2, goes on with 2; 0, sends RQ RQ RQ."  R-145
 -- Assumes nothing.
-use mathlib.Core.Bool.{Bool, true, false, _&&_}
+use mathlib.Core.Bool.{Bool, false, _&&_}
 use mathlib.Core.List.{List, [], _∷_}
 use Prim.Native.Nat.{ℕ}
 use lib.Dec.{eqb}

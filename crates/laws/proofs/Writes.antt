@@ -1,9 +1,9 @@
 -- Runs of stores: `sets l i vs` of `lib.Seq` is l with vs stored from i on. Assumes nothing.
-use mathlib.Core.Path.{_≡_, refl, ap, _∙_, sym}
+use mathlib.Core.Path.{_≡_, ap, _∙_, sym}
 use mathlib.Core.List.{List, [], _∷_, _++_}
-use Prim.Native.Nat.{ℕ, zero, suc, _+_, _≤_}
+use Prim.Native.Nat.{ℕ, suc, _+_, _≤_}
 use native.Mathlib.Nat.{add-zero, zero-add, add-suc, suc-add, add-assoc}
-use lib.ListN.{length, set, drop, length-append}
+use lib.ListN.{length, set, length-append}
 use lib.Seq.{sets, sets-eq}
 use Rattle.laws.specs.Room.{over, Wrote}
 

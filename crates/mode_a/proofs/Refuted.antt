@@ -10,24 +10,23 @@
 --     no-order-3-4               a bad offer told before a bad station
 --     no-offer-unjudged          a text offer that is judged only where it would be taken
 -- Assumes nothing.
-use mathlib.Core.Path.{_≡_, refl, ap, sym, _∙_}
+use mathlib.Core.Path.{_≡_, ap, sym, _∙_}
 use mathlib.Core.Bool.{Bool, true, false}
 use Prim.Native.Nat.{ℕ}
 use native.Mathlib.Omega.{arith}
-use Rattle.signals.specs.declared.Case.the-variants.{Letters, Figures}
+use Rattle.signals.specs.declared.Case.the-variants.{Letters}
 use Rattle.signals.specs.Meaning.{meaningOf, trafficOf}
 use Rattle.signals.specs.Numbers.{Answer, answered, refused, firstNot}
-use Rattle.mode_a.specs.declared.Role.the-variants.{Master, Slave}
-use Rattle.mode_a.specs.declared.Number.{Number}
+use Rattle.mode_a.specs.declared.Role.the-variants.{Slave}
 use Rattle.mode_a.specs.declared.Number.the-variants.{One, Two}
 use Rattle.mode_a.specs.declared.Words.{Words}
 use Rattle.mode_a.specs.declared.Place.{Place}
-use Rattle.mode_a.specs.declared.Place.the-variants.{Sending, Turning, Opening, Ending, Receiving, Asking, StandBy, Lost}
+use Rattle.mode_a.specs.declared.Place.the-variants.{Sending, Turning, Receiving, StandBy, Lost}
 use Rattle.mode_a.specs.declared.Offer.{Offer}
 use Rattle.mode_a.specs.declared.Station.{Station}
 use Rattle.mode_a.specs.declared.Reply.{Reply}
 use Rattle.mode_a.specs.declared.Stepped.{Stepped}
-use Rattle.mode_a.specs.Station.{words, single, silence, RQ×3, asksFor, freshSlave}
+use Rattle.mode_a.specs.Station.{words, silence, RQ×3, asksFor, freshSlave}
 use Rattle.mode_a.specs.Heard.{firstOf, mayHold, isBlock, isWords, heardOf}
 use Rattle.mode_a.specs.Over.{listened}
 use Rattle.mode_a.specs.Step.{trafficIn, done, sound, stepping, Steps}

@@ -7,7 +7,7 @@ use mathlib.Core.Bool.{Bool, _&&_, _||_}
 use Prim.Native.Nat.{ℕ}
 use lib.Dec.{eqb}
 use Rattle.laws.specs.Choice.{if_then_else_}
-use Rattle.signals.specs.Meaning.{trafficOf, alpha, beta, rq, cs1, cs2, cs3}
+use Rattle.signals.specs.Meaning.{trafficOf, beta, rq, cs1, cs2, cs3}
 use Rattle.mode_a.specs.declared.Number.{Number}
 use Rattle.mode_a.specs.declared.Number.the-variants.{One, Two}
 use Rattle.mode_a.specs.declared.Words.{Words}

@@ -5,7 +5,7 @@
 -- Step.antt.
 -- Assumes nothing.
 use mathlib.Core.Bool.{Bool, true, false}
-use Prim.Native.Nat.{ℕ, _+_}
+use Prim.Native.Nat.{_+_}
 use lib.Dec.{leb}
 use Rattle.laws.specs.Choice.{if_then_else_}
 use Rattle.signals.specs.Meaning.{rq, cs3}
@@ -19,7 +19,7 @@ use Rattle.mode_a.specs.declared.Place.{Place}
 use Rattle.mode_a.specs.declared.Place.the-variants.{Sending, Turning, Opening, Ending, Receiving, Asking, StandBy, Lost}
 use Rattle.mode_a.specs.declared.Doing.{Doing}
 use Rattle.mode_a.specs.declared.Doing.the-variants.{Repeats, Goes, Takes, Receives, Opens, Accepts}
-use Rattle.mode_a.specs.Station.{words, single, silence, βαβ, ααα, RQ×3, other, same, asksFor}
+use Rattle.mode_a.specs.Station.{single, silence, βαβ, ααα, RQ×3, other, same, asksFor}
 use Rattle.mode_a.specs.Heard.{First, Cs, Cs3, Rq, Else, Heard}
 
 -- Sending "(holds a block, numbered 1 or 2; reads the first word only)"                                   R-048, R-049

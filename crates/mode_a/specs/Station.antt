@@ -4,8 +4,7 @@ use mathlib.Core.Bool.{Bool, true, false}
 use mathlib.Core.List.{List, [], _∷_}
 use Prim.Native.Nat.{ℕ}
 use Rattle.signals.specs.declared.Case.the-variants.{Letters}
-use Rattle.signals.specs.Meaning.{alpha, beta, rq, cs1, cs2, cs3}
-use Rattle.mode_a.specs.declared.Role.{Role}
+use Rattle.signals.specs.Meaning.{alpha, beta, rq, cs1, cs2}
 use Rattle.mode_a.specs.declared.Role.the-variants.{Master, Slave}
 use Rattle.mode_a.specs.declared.Number.{Number}
 use Rattle.mode_a.specs.declared.Number.the-variants.{One, Two}

@@ -8,8 +8,7 @@ use Prim.Native.Nat.{ℕ, _+_}
 use lib.Dec.{eqb, leb, ltb}
 use lib.ListN.{length, getD}
 use Rattle.laws.specs.Choice.{if_then_else_}
-use Rattle.signals.specs.declared.Case.{Case}
-use Rattle.signals.specs.Meaning.{alpha, beta, cs3, figures}
+use Rattle.signals.specs.Meaning.{beta, cs3, figures}
 use Rattle.signals.specs.Numbers.{Answer, answered, refused, firstNot}
 use Rattle.mode_a.specs.declared.Number.{Number}
 use Rattle.mode_a.specs.declared.Words.{Words}

@@ -5,10 +5,7 @@ use Rattle.mode_a.specs.declared.Role.the-variants.{Master, Slave}
 use Rattle.mode_a.specs.declared.Words.{Words}
 use Rattle.mode_a.specs.declared.Place.{Place}
 use Rattle.mode_a.specs.declared.Place.the-variants.{Sending, Turning, Opening, Ending, Receiving, Asking, StandBy, Lost}
-use Rattle.mode_a.specs.declared.Number.{Number}
-use Rattle.mode_a.specs.declared.Number.the-variants.{One, Two}
-use Rattle.mode_a.specs.declared.Doing.{Doing}
-use Rattle.mode_a.specs.Heard.{First, Cs, Heard, heardOf}
+use Rattle.mode_a.specs.Heard.{heardOf}
 use Rattle.mode_a.specs.Rows.{rowOf}
 use Rattle.table.specs.declared.Kind.{Kind}
 use Rattle.table.specs.Kinds.{kindOf, heardK}

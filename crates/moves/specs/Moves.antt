@@ -1,6 +1,5 @@
 -- What each action of the table does at a place. Where a place carries no number, block or total, none of its actions asks for it.
 -- Assumes nothing.
-use mathlib.Core.Bool.{Bool}
 use Prim.Native.Nat.{ℕ, _+_}
 use lib.Dec.{leb}
 use Rattle.laws.specs.Choice.{if_then_else_}
@@ -10,7 +9,6 @@ use Rattle.mode_a.specs.declared.Role.the-variants.{Master, Slave}
 use Rattle.mode_a.specs.declared.Number.{Number}
 use Rattle.mode_a.specs.declared.Number.the-variants.{One, Two}
 use Rattle.mode_a.specs.declared.Words.{Words}
-use Rattle.mode_a.specs.declared.Ended.{Ended}
 use Rattle.mode_a.specs.declared.Place.{Place}
 use Rattle.mode_a.specs.declared.Place.the-variants.{Sending, Turning, Opening, Ending, Receiving, Asking, StandBy, Lost}
 use Rattle.mode_a.specs.declared.Doing.{Doing}

@@ -1,22 +1,21 @@
 -- The byte of a word, read off the tables, is what the word prints: one test that antt computes over all 256 bytes, in
 -- each case. Assumes nothing.
-use mathlib.Core.Path.{_≡_, refl, ap, sym, _∙_}
-use mathlib.Core.Bool.{Bool, true, false, _&&_, _||_}
+use mathlib.Core.Path.{_≡_, refl, ap, _∙_}
+use mathlib.Core.Bool.{Bool, true, false, _||_}
 use mathlib.Core.List.{List, [], _∷_}
 use Prim.Native.Nat.{ℕ, zero, suc, _-_, _<_, _≤_}
 use native.Mathlib.Numerals.{sub-one}
 use native.Mathlib.Omega.{arith}
-use lib.Dec.{eqb, leb}
+use lib.Dec.{leb}
 use lib.ListN.{length}
-use borrow.Author.Tests.{eq-eqb, ne-eqb, le-leb, lt-leb}
-use Rattle.laws.specs.Choice.{if_then_else_}
+use borrow.Author.Tests.{eq-eqb, ne-eqb, le-leb}
 use Rattle.laws.proofs.Table.{tabFrom, same-table}
 use Rattle.signals.specs.declared.Case.{Case}
 use Rattle.signals.specs.declared.Case.the-variants.{Letters, Figures}
 use Rattle.signals.specs.declared.Row.{Row}
 use Rattle.signals.specs.Rows.{rowOf}
 use Rattle.signals.specs.Meaning.{meaningOf, trafficOf}
-use Rattle.text.specs.Printing.{bytesOf, mayPrint, errorMark}
+use Rattle.text.specs.Printing.{bytesOf, mayPrint}
 use Rattle.printing.specs.Glyph.{column, glyphNo, glyphOf, putOf}
 
 same : (c : Case) → tabFrom (λ w. putOf (glyphOf c w)) 256 0 ≡ tabFrom (bytesOf c) 256 0

@@ -2,10 +2,10 @@
 use mathlib.Core.Path.{_≡_, refl}
 use mathlib.Core.Bool.{Bool, true, false, _&&_, Bool·beq}
 use Prim.Native.Nat.{ℕ, zero, suc, _+_, _≤_, _<_}
-use lib.Dec.{T, eqb, leb, eqb→eq, leb→le}
+use lib.Dec.{T, eqb, leb, leb→le}
 use lib.Count.{ones}
 use Rattle.laws.specs.Choice.{if_then_else_}
-use Rattle.laws.proofs.Below.{every, at-below, agree-below, both-left, both-right}
+use Rattle.laws.proofs.Below.{at-below, agree-below, both-left, both-right}
 use Rattle.signals.specs.Units.{onesOf, intactOf}
 use Rattle.signals.specs.Meaning.{meaningOf, wordNo}
 

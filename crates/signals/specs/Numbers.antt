@@ -13,7 +13,7 @@
 -- Assumes nothing.
 use mathlib.Core.Bool.{Bool}
 use mathlib.Core.List.{List, [], _∷_}
-use Prim.Native.Nat.{ℕ, zero, suc}
+use Prim.Native.Nat.{ℕ, suc}
 use Rattle.laws.specs.Choice.{if_then_else_}
 
 -- what a call says: the answer, or the refusal's number and the value beside it

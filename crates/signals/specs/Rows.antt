@@ -2,7 +2,7 @@
 --
 -- 0 stands for no byte; no character is the byte 0. A letter without a figure prints 35 (01, Text; R-035).
 -- Assumes nothing.
-use mathlib.Core.List.{List, map}
+use mathlib.Core.List.{map}
 use Prim.Native.Nat.{ℕ}
 use lib.ListN.{getD}
 use Rattle.signals.specs.declared.Row.{Row}

@@ -6,12 +6,11 @@ use Prim.Native.Nat.{ℕ}
 use native.Mathlib.Omega.{arith}
 use lib.Dec.{eqb}
 use borrow.Author.Tests.{eqb-true}
-use Rattle.laws.specs.Choice.{if_then_else_}
 use Rattle.signals.specs.Meaning.{meaningOf, trafficOf, rq}
 use Rattle.mode_a.specs.declared.Number.the-variants.{One, Two}
 use Rattle.mode_a.specs.declared.Words.{Words}
 use Rattle.mode_a.specs.Station.{βαβ, ααα, RQ×3}
-use Rattle.mode_a.specs.Heard.{First, Cs, Heard, firstOf, mayHold, isBlock, isWords, heardOf}
+use Rattle.mode_a.specs.Heard.{First, Cs, firstOf, mayHold, isBlock, isWords, heardOf}
 use Rattle.mode_a.proofs.HeardLaws.{Says, first-says}
 use Rattle.table.specs.Kinds.{kindOf, heardK, blockKind, restKind}
 

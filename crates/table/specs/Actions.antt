@@ -1,6 +1,5 @@
 -- The cell of each place at each kind of burst: which of the code's actions the place takes. That the actions do what the rows of
 -- `mode_a` say is proved in `moves` (rows-agree). Assumes nothing.
-use mathlib.Core.Bool.{Bool, true, false}
 use Prim.Native.Nat.{ℕ}
 use Rattle.laws.specs.Choice.{if_then_else_}
 use Rattle.mode_a.specs.declared.Number.the-variants.{One, Two}

@@ -1,7 +1,7 @@
 -- The promise of a call that writes into lent room, at each refusal and at success: what it says, and what the room then
 -- holds. Encoding and printing differ in the limit and in two numbers alone.
 -- Assumes nothing.
-use mathlib.Core.Path.{_≡_, refl, ap, sym, _∙_}
+use mathlib.Core.Path.{_≡_, refl}
 use mathlib.Core.Bool.{Bool, true, false}
 use mathlib.Core.List.{List}
 use Prim.Native.Nat.{ℕ, _<_, _≤_}

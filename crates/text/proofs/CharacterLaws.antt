@@ -5,18 +5,17 @@ use mathlib.Core.Bool.{Bool, true, false, _&&_}
 use mathlib.Core.List.{List, [], _∷_}
 use Prim.Native.Nat.{ℕ, _<_, _≤_}
 use native.Mathlib.Omega.{arith}
-use lib.Dec.{T, eqb, ltb, leb, leb→le, ltb→lt}
-use lib.ListN.{length, getD}
+use lib.Dec.{T, eqb, ltb, ltb→lt}
+use lib.ListN.{length}
 use borrow.Author.Tests.{ne-eqb, ltb-true, ltb-false}
 use Rattle.laws.specs.Choice.{if_then_else_}
-use Rattle.laws.proofs.Below.{at-below, both-left, both-right}
+use Rattle.laws.proofs.Below.{both-left, both-right}
 use Rattle.laws.proofs.Table.{tabFrom, same-table}
 use Rattle.signals.specs.declared.Case.{Case}
 use Rattle.signals.specs.declared.Case.the-variants.{Letters, Figures}
 use Rattle.signals.specs.Signals.{Signal, pair, lone, free, mute, signals}
 use Rattle.signals.specs.Meaning.{meaningOf, trafficOf}
 use Rattle.signals.specs.Numbers.{firstNot}
-use Rattle.text.specs.declared.Character.{Character}
 use Rattle.text.specs.declared.Character.the-variants.{Without}
 use Rattle.text.specs.Encoding.{characterIn, characterOf, signalsFor, caseAfter, isCharacter, hasSignal}
 use Rattle.text.specs.Printing.{bytesOf, printed, endsPrinted, mayPrint}

@@ -1,15 +1,14 @@
 -- Encoding is a walk, of at most two signals a character, and answers in the order 5, 1, 2. Assumes nothing.
 use mathlib.Core.Path.{_≡_, refl}
 use mathlib.Core.List.{List, [], _∷_}
-use Prim.Native.Nat.{ℕ, _+_, _*_, _≤_}
+use Prim.Native.Nat.{ℕ, _*_, _≤_}
 use native.Mathlib.Omega.{arith}
 use lib.ListN.{length, length-append}
 use Rattle.signals.specs.declared.Case.{Case}
 use Rattle.signals.specs.declared.Case.the-variants.{Letters, Figures}
-use Rattle.signals.specs.Numbers.{Answer, firstNot}
+use Rattle.signals.specs.Numbers.{firstNot}
 use Rattle.text.specs.declared.Character.{Character}
 use Rattle.text.specs.declared.Character.the-variants.{Without, Either, Needing}
-use Rattle.text.specs.Written.{Written}
 use Rattle.text.specs.Encoding.{characterOf, shift, signalsFor, caseAfter, encoded, endsEncoded, hasSignal, encoding}
 use Rattle.text.proofs.WalkLaws.{Walk}
 use Rattle.text.proofs.AnswerLaws.{judged}

@@ -1,15 +1,10 @@
 -- Printing is a walk, of at most one byte a signal, and answers in the order 7, 3, 2. Assumes nothing.
 use mathlib.Core.Path.{_≡_, refl}
-use mathlib.Core.Bool.{Bool, true, false}
-use mathlib.Core.List.{List, [], _∷_}
-use Prim.Native.Nat.{ℕ, _+_, _≤_}
-use native.Mathlib.Omega.{arith}
-use lib.Dec.{eqb}
+use mathlib.Core.List.{List}
+use Prim.Native.Nat.{ℕ}
 use lib.ListN.{length}
-use Rattle.laws.specs.Choice.{if_then_else_}
 use Rattle.signals.specs.declared.Case.{Case}
-use Rattle.signals.specs.Numbers.{Answer, firstNot}
-use Rattle.text.specs.Written.{Written}
+use Rattle.signals.specs.Numbers.{firstNot}
 use Rattle.text.specs.Printing.{bytesOf, caseAt, printed, endsPrinted, mayPrint, printing}
 use Rattle.text.proofs.WalkLaws.{Walk}
 use Rattle.text.proofs.AnswerLaws.{judged}

@@ -9,18 +9,17 @@
 --     no-touch-beyond         an encoder that clears the room beyond the part written
 --     no-trailing-shift       an encoder that goes back to letters at the end
 -- Assumes nothing.
-use mathlib.Core.Path.{_≡_, refl, ap, sym, _∙_}
+use mathlib.Core.Path.{_≡_}
 use mathlib.Core.List.{List, [], _∷_}
 use Prim.Native.Nat.{ℕ}
 use native.Mathlib.Omega.{arith}
-use lib.ListN.{length, replicate}
-use Rattle.laws.specs.Room.{over}
-use Rattle.signals.specs.declared.Case.the-variants.{Letters, Figures}
+use lib.ListN.{replicate}
+use Rattle.signals.specs.declared.Case.the-variants.{Letters}
 use Rattle.signals.specs.Meaning.{meaningOf, trafficOf}
-use Rattle.signals.specs.Numbers.{Answer, answered, refused, firstNot}
+use Rattle.signals.specs.Numbers.{firstNot}
 use Rattle.text.specs.declared.Encoded.{Encoded}
 use Rattle.text.specs.declared.Printed.{Printed}
-use Rattle.text.specs.Written.{Written, Counted, counted, leaves}
+use Rattle.text.specs.Written.{Written}
 use Rattle.text.specs.Encoding.{characterOf, encoded, endsEncoded, encoding, Encodes}
 use Rattle.text.specs.Printing.{bytesOf, printed, endsPrinted, mayPrint, printing, Prints}
 

@@ -2,20 +2,20 @@
 --     text-comes-back   over the calls' own definitions: never refused where there is room for the text, the text, and
 --                       the case that encoding ended in
 -- Assumes nothing.
-use mathlib.Core.Path.{_≡_, refl, ap, sym, _∙_}
+use mathlib.Core.Path.{_≡_, ap, sym, _∙_}
 use mathlib.Core.Bool.{true}
-use mathlib.Core.List.{List, [], _∷_, _++_}
-use Prim.Native.Nat.{ℕ, _+_, _≤_}
+use mathlib.Core.List.{List, [], _∷_}
+use Prim.Native.Nat.{ℕ, _≤_}
 use native.Mathlib.Omega.{arith}
 use lib.ListN.{length}
 use Rattle.signals.specs.declared.Case.{Case}
-use Rattle.signals.specs.Numbers.{Answer, answered, refused, firstNot}
+use Rattle.signals.specs.Numbers.{answered, firstNot}
 use Rattle.signals.proofs.NumberLaws.{all-head, all-append as all-may-append}
 use Rattle.text.specs.Written.{Written}
-use Rattle.text.specs.Encoding.{characterOf, signalsFor, caseAfter, hasSignal, encoded, endsEncoded, encoding}
+use Rattle.text.specs.Encoding.{hasSignal, encoded, endsEncoded, encoding}
 use Rattle.text.specs.Printing.{bytesOf, caseAt, printed, endsPrinted, mayPrint, printing}
-use Rattle.text.proofs.WalkLaws.{Walk, all-append, ends-append}
-use Rattle.text.proofs.AnswerLaws.{judged, answered-means, judged-answers}
+use Rattle.text.proofs.WalkLaws.{all-append, ends-append}
+use Rattle.text.proofs.AnswerLaws.{answered-means, judged-answers}
 use Rattle.text.proofs.EncodingLaws.{encoded-walk, encoding-judged, encodeStep, encodeAfter, encoded-le}
 use Rattle.text.proofs.PrintingLaws.{printed-walk, printing-judged}
 use Rattle.text.proofs.CharacterLaws.{signal-is-byte, character-prints, character-ends, character-may}

@@ -2,14 +2,13 @@
 --     shift-is-needed   of every shift in what encoding answers
 -- Assumes nothing.
 use mathlib.Core.Path.{_≡_, refl, ap, sym, _∙_}
-use mathlib.Core.Bool.{Bool, true, false, not, _&&_}
+use mathlib.Core.Bool.{Bool, not, _&&_}
 use mathlib.Core.List.{List, [], _∷_, _++_, append-assoc}
 use Prim.Native.Nat.{ℕ, _<_, _≤_}
 use native.Mathlib.Omega.{arith}
 use lib.Dec.{T, eqb, eqb-refl, T-not}
 use lib.ListN.{length}
 use borrow.Author.Tests.{ne-eqb}
-use Rattle.laws.specs.Choice.{if_then_else_}
 use Rattle.laws.proofs.Below.{at-below, both-left, both-right}
 use Rattle.signals.specs.declared.Case.{Case}
 use Rattle.signals.specs.declared.Case.the-variants.{Letters, Figures}
@@ -21,9 +20,9 @@ use Rattle.text.specs.declared.Character.the-variants.{Without, Either, 
 use Rattle.text.specs.Written.{Written}
 use Rattle.text.specs.Encoding.{characterOf, shift, signalsFor, caseAfter, hasSignal, encoded, endsEncoded, encoding}
 use Rattle.text.specs.Printing.{caseAt, endsPrinted}
-use Rattle.text.specs.Shifts.{shiftTo, other, Needed}
+use Rattle.text.specs.Shifts.{shiftTo, Needed}
 use Rattle.text.proofs.AnswerLaws.{answered-means}
-use Rattle.text.proofs.EncodingLaws.{encoded-walk, encoding-judged, encodeStep, encodeAfter}
+use Rattle.text.proofs.EncodingLaws.{encoded-walk, encoding-judged, encodeAfter}
 use Rattle.text.proofs.PrintingLaws.{printed-walk}
 use Rattle.text.proofs.CharacterLaws.{signal-is-byte}
 

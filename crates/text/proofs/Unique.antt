@@ -1,7 +1,7 @@
 -- No second answer: the promises of `encode` and `print`, as their contracts cite them, leave one answer and one content of
 -- the lent room.
 -- Assumes nothing.
-use mathlib.Core.Path.{_≡_, refl, ap, sym, _∙_}
+use mathlib.Core.Path.{_≡_, refl}
 use mathlib.Core.List.{List}
 use Prim.Native.Nat.{ℕ}
 use lib.Dec.{eqb}

@@ -1,9 +1,6 @@
 -- `encoding::character` meets its contract: the signal by the table of characters, and the case by the signal's row.
 -- Assumes nothing.
-use Prim.Native.Nat.{_-_}
-use mathlib.Core.Path.{ap, _∙_}
 use native.Mathlib.Omega.{arith}
-use Rattle.signals.specs.Rows.{rowOf}
 use Rattle.encoding.proofs.CharacterLaws.{holder-le, character-without, character-either, character-letter, character-figure}
 use borrow.Author.Needs.{needs}
 use Rattle.encoding.proofs.character.Statement.{statement}

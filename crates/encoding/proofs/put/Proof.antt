@@ -3,7 +3,7 @@ use mathlib.Core.Path.{refl, sym}
 use mathlib.Core.List.{[], _∷_}
 use native.Mathlib.Nat.{add-zero}
 use native.Mathlib.Omega.{arith}
-use lib.ListN.{length, length-append}
+use lib.ListN.{length-append}
 use Rattle.laws.proofs.Writes.{wrote-then}
 use Rattle.text.specs.Encoding.{shift}
 use borrow.Author.Needs.{needs}

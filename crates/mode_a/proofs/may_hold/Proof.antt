@@ -1,6 +1,5 @@
 -- `mode_a::may_hold` meets its contract, by the signal's number. Assumes nothing.
-use mathlib.Core.Path.{_≡_, sym, _∙_}
-use borrow.Author.Tests.{eq-eqb, ne-eqb}
+use borrow.Author.Tests.{ne-eqb}
 use Rattle.mode_a.proofs.HeardLaws.{may-hold-number}
 use borrow.Author.Needs.{needs}
 use Rattle.mode_a.proofs.may_hold.Statement.{statement}

@@ -1,7 +1,7 @@
 -- `printing::print_letters` and `printing::print_figures` meet their contracts: what is left of the list falls at each
 -- call, and each answer is a law over the case. Assumes nothing.
 use Prim.Native.Nat.{ℕ, _<_, _-_}
-use lib.ListN.{length, getD}
+use lib.ListN.{length}
 use mathlib.Core.Path.{_∙_}
 use native.Mathlib.Omega.{arith}
 use borrow.Author.Needs.{needs}

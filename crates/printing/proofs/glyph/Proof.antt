@@ -1,5 +1,4 @@
 -- `printing::glyph` meets its contract, test by test. Assumes nothing.
-use mathlib.Core.Path.{ap}
 use native.Mathlib.Omega.{arith}
 use Rattle.signals.specs.declared.Case.the-variants.{Letters, Figures}
 use Rattle.signals.proofs.CodeLaws.{meaning-le}

@@ -1,15 +1,13 @@
 -- `printing::survey` meets its contract, by the laws of a walk: one signal further, a stop, the end. Assumes nothing.
-use Prim.Native.Nat.{_-_, _≤_, ℕ}
+use Prim.Native.Nat.{_-_}
 use native.Mathlib.Omega.{arith}
 use lib.ListN.{length, getD}
-use mathlib.Core.Path.{_≡_, ap, sym, _∙_}
-use mathlib.Core.List.{List}
+use mathlib.Core.Path.{sym, _∙_}
 use borrow.Author.Needs.{needs}
 use borrow.Author.Tests.{not-true, not-false}
 use Rattle.text.specs.Printing.{mayPrint, bytesOf, caseAt, printed, endsPrinted}
 use Rattle.text.proofs.WalkLaws.{Looking, look-starts, look-next, look-stops, look-ends, look-small}
 use Rattle.text.proofs.PrintingLaws.{printed-walk}
-use Rattle.printing.specs.Glyph.{putOf, glyphOf}
 use Rattle.printing.proofs.GlyphLaws.{sized, bytes-le}
 use Rattle.printing.proofs.survey.Statement.{statement}
 use Rattle.printing.proofs.survey.Tie as tie

@@ -1,0 +1,63 @@
+-- The over in single runs of a fresh slave: what is easily got wrong. Each over is told by its splitting; where there is none, by
+-- the place that the station computes to, through `over-heard-exactly`.
+-- Assumes nothing.
+use mathlib.Core.Path.{_≡_, refl}
+use mathlib.Core.List.{[], _∷_}
+use Prim.Native.Nat.{ℕ}
+use native.Mathlib.Omega.{arith}
+use Rattle.signals.specs.Meaning.{trafficOf, meaningOf, letters, figures, alpha, beta, rq, cs1, cs3}
+use Rattle.signals.specs.Numbers.{firstNot}
+use Rattle.mode_a.specs.declared.Role.the-variants.{Slave}
+use Rattle.mode_a.specs.declared.Number.{Number}
+use Rattle.mode_a.specs.declared.Number.the-variants.{One, Two}
+use Rattle.mode_a.specs.declared.Place.{Place}
+use Rattle.mode_a.specs.declared.Place.the-variants.{Receiving, Asking}
+use Rattle.mode_a.specs.declared.Offer.{Offer}
+use Rattle.mode_a.specs.Station.{words}
+use Rattle.mode_a.specs.Heard.{firstOf, mayHold, isBlock, isWords, heardOf}
+use Rattle.mode_a.specs.Over.{query, cross, listened}
+use Rattle.mode_a.specs.Step.{trafficIn, done, sound, stepping}
+use Rattle.overs.specs.Overs.{Event, Run, start, _▷_, accepted, earlier, since, caseAfter, OverIn}
+use Rattle.overs.proofs.OverLaws.{over-heard-exactly}
+
+-- a burst heard and nothing offered; a block heard and an over offered
+abbrev hears : ℕ → ℕ → ℕ → Event
+hears x y z = record { burst = words x y z; offer = Offer.Nothing }
+
+abbrev breaks : ℕ → ℕ → ℕ → Event
+breaks x y z = record { burst = words x y z; offer = Offer.Over }
+
+elsewhere : (p : Place) (n : Number) → p ≡ Receiving n → p ≡ Asking → ⊥
+elsewhere p n r a = let z : _≡_ {A = ℕ} 0 1 = cc in omega arith
+
+-- the +, β, and the ?, each in a block of its own; a letters shift behind the ?
+β-between : OverIn Slave (start ▷ hears figures cross beta ▷ hears beta beta beta) (hears beta query letters)
+unfolding accepted earlier since caseAfter stepping sound done firstNot isBlock mayHold trafficOf meaningOf heardOf firstOf isWords listened trafficIn
+β-between = record { beginning = figures ∷ []; betas = 5; rest = letters ∷ []; split = refl; in-block = omega arith; figures-at-cross = refl; figures-at-query = refl }
+
+-- two +: the second is the one
+two-crosses : OverIn Slave (start ▷ hears figures cross cross) (hears query beta beta)
+unfolding accepted earlier since caseAfter stepping sound done firstNot isBlock mayHold trafficOf meaningOf heardOf firstOf isWords listened trafficIn
+two-crosses = record { beginning = figures ∷ cross ∷ []; betas = 0; rest = beta ∷ beta ∷ []; split = refl; in-block = omega arith; figures-at-cross = refl; figures-at-query = refl }
+
+-- a figures shift between
+shift-between : OverIn Slave (start ▷ hears figures cross figures) (hears query beta beta) → ⊥
+unfolding accepted earlier since caseAfter stepping sound done firstNot isBlock mayHold trafficOf meaningOf heardOf firstOf isWords listened trafficIn
+shift-between h = elsewhere _ One refl (over-heard-exactly Slave (start ▷ hears figures cross figures) (hears query beta beta) refl refl .1 h)
+
+-- in letters case they are Z and B
+in-letters : OverIn Slave start (hears cross query beta) → ⊥
+unfolding accepted earlier since caseAfter stepping sound done firstNot isBlock mayHold trafficOf meaningOf heardOf firstOf isWords listened trafficIn
+in-letters h = elsewhere _ Two refl (over-heard-exactly Slave start (hears cross query beta) refl refl .1 h)
+
+-- a turn, and the turn back, after a +: the + is cancelled, and figures case is still in force
+abbrev turned : Run
+turned = start ▷ breaks figures cross beta ▷ hears beta alpha beta ▷ hears cs1 0 0 ▷ hears cs3 0 0 ▷ hears rq 0 0
+
+turn-between : OverIn Slave turned (hears query beta beta) → ⊥
+unfolding accepted earlier since caseAfter stepping sound done firstNot isBlock mayHold trafficOf meaningOf heardOf firstOf isWords listened trafficIn
+turn-between h = elsewhere _ One refl (over-heard-exactly Slave turned (hears query beta beta) refl refl .1 h)
+
+figures-after-turn : OverIn Slave turned (hears cross query beta)
+unfolding accepted earlier since caseAfter stepping sound done firstNot isBlock mayHold trafficOf meaningOf heardOf firstOf isWords listened trafficIn
+figures-after-turn = record { beginning = []; betas = 0; rest = beta ∷ []; split = refl; in-block = omega arith; figures-at-cross = refl; figures-at-query = refl }

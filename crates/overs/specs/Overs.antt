@@ -1,0 +1,146 @@
+-- 01, The station: the over, told from the signals that a station has accepted.  R-086 to R-091
+--
+-- "The over is heard when ? follows + in figures case with only β between, within a block or across blocks; any other signal
+-- between cancels it, and so does the step from Asking to Opening or from Turning to Receiving. Only accepted blocks count here.
+-- The case of a direction starts at letters and lasts through turns."
+--
+-- Here a list is split, and nothing is remembered from one signal to the next. What is easily got wrong:
+--     + β β ?       is an over, also where each stands in a block of its own
+--     + figures ?   is none, though figures case is in force throughout: a shift is another signal
+--     + + ?         is one: the second + is the +
+--     ? ..          may have signals behind it in its block; the over is heard in the block that has the ?
+-- A turn cancels the + and leaves the case. Blocks that the station sends, and bursts that it does not accept, are in no list.
+-- Assumes nothing.
+use mathlib.Core.Path.{_≡_}
+use mathlib.Core.Bool.{Bool, true, false, _&&_}
+use mathlib.Core.List.{List, [], _∷_, _++_}
+use Prim.Native.Nat.{ℕ, _<_}
+use lib.Dec.{eqb}
+use lib.ListN.{length, replicate}
+use Rattle.laws.specs.Choice.{if_then_else_}
+use Rattle.signals.specs.declared.Case.{Case}
+use Rattle.signals.specs.declared.Case.the-variants.{Letters, Figures}
+use Rattle.signals.specs.Meaning.{letters, figures, beta}
+use Rattle.signals.specs.Numbers.{Answer, answered, refused}
+use Rattle.mode_a.specs.declared.Role.{Role}
+use Rattle.mode_a.specs.declared.Role.the-variants.{Master, Slave}
+use Rattle.mode_a.specs.declared.Words.{Words}
+use Rattle.mode_a.specs.declared.Place.{Place}
+use Rattle.mode_a.specs.declared.Place.the-variants.{Sending, Turning, Opening, Ending, Receiving, Asking, StandBy, Lost}
+use Rattle.mode_a.specs.declared.Offer.{Offer}
+use Rattle.mode_a.specs.declared.Station.{Station}
+use Rattle.mode_a.specs.declared.Reply.{Reply}
+use Rattle.mode_a.specs.Station.{listOf, freshMaster, freshSlave}
+use Rattle.mode_a.specs.Heard.{isBlock}
+use Rattle.mode_a.specs.Over.{query, cross}
+use Rattle.mode_a.specs.Step.{stepping, stationAfter}
+
+-- what a step is called with, beside the station
+pub record Event : Type 0 where
+  pub burst : Words
+  pub offer : Offer
+
+-- a run: no event yet, or a run and the event after it
+infixl 60 _▷_
+pub data Run : Type 0 where
+  start : Run
+  _▷_ : Run → Event → Run
+
+-- "A fresh master is Opening. A fresh slave is Receiving, awaits 1"  R-092, R-093, R-095
+abbrev pub fresh : Role → Station
+fresh Master = freshMaster
+fresh Slave = freshSlave
+
+-- the station after an event, and after a run. A refused event is no step: it leaves the station as it was.
+abbrev pub said : Station → Event → Answer Reply
+said s e = stepping s (e .burst) (e .offer)
+
+abbrev pub next : Station → Event → Station
+next s e = stationAfter s (said s e)
+
+abbrev pub after : Station → Run → Station
+after s start = s
+after s (run ▷ e) = next (after s run) e
+
+-- "Only accepted blocks count here": the station is Receiving, the step is answered, and the burst is a block  R-090
+abbrev pub isAnswered : Answer Reply → Bool
+isAnswered (answered r) = true
+isAnswered (refused n v) = false
+
+abbrev pub isReceiving : Place → Bool
+isReceiving (Sending h) = false
+isReceiving (Turning n) = false
+isReceiving Opening = false
+isReceiving (Ending e) = false
+isReceiving (Receiving n) = true
+isReceiving Asking = false
+isReceiving StandBy = false
+isReceiving Lost = false
+
+abbrev pub isAccepted : Station → Event → Bool
+isAccepted s e = isAnswered (said s e) && (isReceiving (s .place) && isBlock (e .burst))
+
+abbrev pub acceptedIn : Station → Event → List ℕ
+acceptedIn s e = if isAccepted s e then listOf (e .burst) else []
+
+-- "the step from Asking to Opening or from Turning to Receiving": by the place before and the place after  R-089
+abbrev pub isOpening : Place → Bool
+isOpening (Sending h) = false
+isOpening (Turning n) = false
+isOpening Opening = true
+isOpening (Ending e) = false
+isOpening (Receiving n) = false
+isOpening Asking = false
+isOpening StandBy = false
+isOpening Lost = false
+
+abbrev pub cancelling : Place → Place → Bool
+cancelling (Sending h) q = false
+cancelling (Turning n) q = isReceiving q
+cancelling Opening q = false
+cancelling (Ending e) q = false
+cancelling (Receiving n) q = false
+cancelling Asking q = isOpening q
+cancelling StandBy q = false
+cancelling Lost q = false
+
+abbrev pub cancels : Station → Event → Bool
+cancels s e = cancelling (s .place) (next s e .place)
+
+-- the words of all blocks that a station accepts in a run, in order; of these, those before the last step that cancels (none
+-- where no step does), and those since
+unfoldable pub accepted : Station → Run → List ℕ
+accepted s start = []
+accepted s (run ▷ e) = accepted s run ++ acceptedIn (after s run) e
+
+unfoldable pub earlier : Station → Run → List ℕ
+earlier s start = []
+earlier s (run ▷ e) = if cancels (after s run) e then accepted s run else earlier s run
+
+unfoldable pub since : Station → Run → List ℕ
+since s start = []
+since s (run ▷ e) = if cancels (after s run) e then [] else since s run ++ acceptedIn (after s run) e
+
+-- the case in force after a list of words: a shift sets it, and no other word moves it  R-091
+abbrev pub caseAt : Case → ℕ → Case
+caseAt c w = if eqb w letters then Letters else if eqb w figures then Figures else c
+
+unfoldable pub caseAfter : Case → List ℕ → Case
+caseAfter c [] = c
+caseAfter c (w ∷ ws) = caseAfter (caseAt c w) ws
+
+-- The over is heard in `block`: `list` is what was accepted since the last cancelling step, `earlier` what was accepted before
+-- it, and c the case at the start. The list with the block behind it is a beginning, a +, β any number of times, a ? that stands
+-- in the block, and a rest; and figures case is in force where the + and where the ? stand.  R-086 to R-088
+pub record HeardOver (c : Case) (earlier list block : List ℕ) : Type 0 where
+  pub beginning : List ℕ
+  pub betas : ℕ
+  pub rest : List ℕ
+  pub split : list ++ block ≡ beginning ++ cross ∷ replicate betas beta ++ query ∷ rest
+  pub in-block : length rest < length block
+  pub figures-at-cross : caseAfter c (earlier ++ beginning) ≡ Figures
+  pub figures-at-query : caseAfter c (earlier ++ beginning ++ cross ∷ replicate betas beta) ≡ Figures
+
+-- the same, for the block of an event after a run of a fresh station
+abbrev pub OverIn : Role → Run → Event → Type 0
+OverIn role run e = HeardOver Letters (earlier (fresh role) run) (since (fresh role) run) (listOf (e .burst))
