@@ -1,0 +1,138 @@
+-- 01, Mode B: the receiver.  R-111 to R-124
+-- Assumes nothing.
+use mathlib.Core.Path.{_≡_}
+use mathlib.Core.Bool.{Bool, true, false, not, _&&_, _||_}
+use Prim.Native.Nat.{ℕ, _+_}
+use lib.Dec.{eqb, ltb}
+use Rattle.laws.specs.Choice.{if_then_else_}
+use Rattle.signals.specs.Units.{intactOf}
+use Rattle.signals.specs.Meaning.{trafficOf, alpha, rq}
+use Rattle.signals.specs.Numbers.{Answer, answered, refused}
+use Rattle.mode_b.specs.declared.Phasing.{Phasing}
+use Rattle.mode_b.specs.declared.Phase.{Phase}
+use Rattle.mode_b.specs.declared.Hearing.{Hearing}
+use Rattle.mode_b.specs.declared.Hearing.the-variants.{Searching, InPhase}
+use Rattle.mode_b.specs.declared.Receiver.{Receiver}
+use Rattle.mode_b.specs.declared.Heard.{Heard}
+use Rattle.mode_b.specs.declared.Received.{Received}
+use Rattle.mode_b.specs.Sender.{carriageReturn, lineFeed}
+
+abbrev pub freshReceiver : Receiver
+freshReceiver = record { hearing = Searching 0 Phasing.One }
+
+-- the receiver, and nothing printed; or a signal printed, 255 for an error
+abbrev pub hears : Hearing → Heard
+hears h = record { receiver = record { hearing = h }; printed = 0 }
+
+abbrev pub printsAt : Hearing → ℕ → Heard
+printsAt h w = record { receiver = record { hearing = h }; printed = w }
+
+abbrev pub errorMark : ℕ
+errorMark = 255
+
+-- "It searches until four intact signals in a row alternate α and RQ; RQ marks DX."  R-112, R-113. A run of k signals that ends in
+-- a phasing signal; the same signal again begins a new run, any other word ends it.
+abbrev pub sameSignal : Phasing → Phasing → Bool
+sameSignal Phasing.One Phasing.One = true
+sameSignal Phasing.One Phasing.Two = false
+sameSignal Phasing.Two Phasing.One = false
+sameSignal Phasing.Two Phasing.Two = true
+
+abbrev pub runOf : ℕ → Phasing → Phasing → ℕ
+runOf k last now = if eqb k 0 || sameSignal last now then 1 else k + 1
+
+-- "Positions whose DX came before those four signals count as phasing."  R-114: at the fourth signal all three waiting DX are RQ.
+-- After RQ an RX slot comes next, after α a DX slot. That step settles and prints nothing.
+abbrev pub isOne : Phasing → Bool
+isOne Phasing.One = true
+isOne Phasing.Two = false
+
+abbrev pub locked : Phasing → Hearing
+locked s = InPhase (record { first = rq; second = rq; third = rq; dx = isOne s; printing = false })
+
+abbrev pub searchedOn : ℕ → Phasing → Heard
+searchedOn run s = if ltb 3 run then hears (locked s) else hears (Searching run s)
+
+abbrev pub searched : ℕ → Phasing → ℕ → Heard
+searched k last w =
+    if eqb w alpha then searchedOn (runOf k last Phasing.One) Phasing.One
+    else if eqb w rq then searchedOn (runOf k last Phasing.Two) Phasing.Two
+    else hears (Searching 0 Phasing.One)
+
+-- "At an RX slot the position is settled": to a signal, to phasing, or to an error  R-115 to R-119
+pub data Settled : Type 0 where
+  signal : (word : ℕ) → Settled
+  phasing : Settled
+  error : Settled
+
+--     alike     "both copies intact and alike, that signal"
+--     phasing   "RQ then α, phasing"
+--     one       "only one intact, that one"
+--     else      "otherwise an error"
+unfoldable pub settled : ℕ → ℕ → Settled
+settled dx rx =
+    if intactOf dx && (intactOf rx && eqb dx rx) then signal dx
+    else if eqb dx rq && eqb rx alpha then phasing
+    else if intactOf dx && not (intactOf rx) then signal dx
+    else if intactOf rx && not (intactOf dx) then signal rx
+    else error
+
+-- "the one position before them is settled by its DX alone"  R-123
+unfoldable pub settledAlone : ℕ → Settled
+settledAlone dx = if intactOf dx then signal dx else error
+
+-- "Printing begins with the first settled return or line feed, which is printed; from then on traffic signals and error marks are
+-- printed."  R-120, R-121: what is printed, 0 for nothing, and whether printing has begun
+abbrev pub begins : ℕ → Bool
+begins w = eqb w carriageReturn || eqb w lineFeed
+
+abbrev pub printedOf : Bool → Settled → ℕ
+printedOf printing (signal w) = if printing || begins w then (if trafficOf w then w else 0) else 0
+printedOf printing phasing = 0
+printedOf printing error = if printing then errorMark else 0
+
+abbrev pub printingAfter : Bool → Settled → Bool
+printingAfter printing (signal w) = printing || begins w
+printingAfter printing phasing = printing
+printingAfter printing error = printing
+
+-- In an RX slot the oldest waiting position is settled.
+unfoldable pub heardRx : Phase → ℕ → Heard
+heardRx p w =
+    printsAt
+    (InPhase (record { first = p .first; second = p .second; third = p .third; dx = true; printing = printingAfter (p .printing) (settled (p .first) w) }))
+    (printedOf (p .printing) (settled (p .first) w))
+
+-- In a DX slot the word waits. "Two successive intact α in DX end reception at once: the one position before them is settled by its
+-- DX alone, and the receiver searches anew."  R-122 to R-124: the third word is the DX before this one, the second the one before
+-- that, and the first has been settled.
+unfoldable pub heardDx : Phase → ℕ → Heard
+heardDx p w =
+    if eqb w alpha && eqb (p .third) alpha then
+    printsAt (Searching 0 Phasing.One) (printedOf (p .printing) (settledAlone (p .second)))
+    else hears (InPhase (record { first = p .second; second = p .third; third = w; dx = false; printing = p .printing }))
+
+-- 01, Numbers returned, for the receiver: 4, "receiver with a search run over 3", "0"  R-130
+abbrev pub receivingBy : Hearing → ℕ → Answer Heard
+receivingBy (Searching k last) w = if ltb 3 k then refused 4 0 else answered (searched k last w)
+receivingBy (InPhase p) w = answered (if p .dx then heardDx p w else heardRx p w)
+
+abbrev pub receiving : Receiver → ℕ → Answer Heard
+receiving r w = receivingBy (r .hearing) w
+
+-- each case of the answer, by 01's number and the value beside it; and the receiver handed back
+abbrev pub saidReceived : Received → Answer Heard
+saidReceived (Received.Done h) = answered h
+saidReceived (Received.BadReceiver r) = refused 4 0
+
+abbrev pub handedBack : Received → Receiver
+handedBack (Received.Done h) = h .receiver
+handedBack (Received.BadReceiver r) = r
+
+abbrev pub receiverAfter : Receiver → Answer Heard → Receiver
+receiverAfter r (answered h) = h .receiver
+receiverAfter r (refused n v) = r
+
+-- The promise of `receive`.
+abbrev pub Receives : Receiver → ℕ → Received → Type 0
+Receives r w a = (saidReceived a ≡ receiving r w) × (handedBack a ≡ receiverAfter r (receiving r w))
