@@ -94,13 +94,14 @@ fn write_stepped(stepped: Stepped) {
     match stepped {
         Stepped::Done(reply) => {
             let station = reply.station;
+            let place = station.place;
             let printed = reply.printed;
             if printed.0 == 0 {
                 io::write_all(1, b"nothing printed, ");
             } else {
                 io::write_all(1, b"accepted and printed, ");
             }
-            write_place(station.place);
+            write_place(place);
         }
         Stepped::BadStation(_) => {
             io::write_all(1, b"refused 4 0\n");

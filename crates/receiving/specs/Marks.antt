@@ -1,0 +1,37 @@
+-- A settled position as one byte: the signal's word, 0 for phasing, 255 for an error. Assumes nothing.
+use mathlib.Core.Bool.{Bool, _&&_, _||_}
+use Prim.Native.Nat.{ℕ}
+use lib.Dec.{eqb, leb}
+use Rattle.laws.specs.Choice.{if_then_else_}
+use Rattle.signals.specs.Units.{intactOf}
+use Rattle.signals.specs.Meaning.{meaningOf, alpha, rq}
+use Rattle.mode_b.specs.Sender.{carriageReturn, lineFeed}
+use Rattle.mode_b.specs.Receiver.{Settled, signal, phasing, error, settled, settledAlone}
+
+-- the tests of settling and of the end
+abbrev pub alikeOf : ℕ → ℕ → Bool
+alikeOf dx rx = intactOf dx && (intactOf rx && eqb dx rx)
+
+abbrev pub phasingOf : ℕ → ℕ → Bool
+phasingOf dx rx = eqb dx rq && eqb rx alpha
+
+abbrev pub twoAlpha : ℕ → ℕ → Bool
+twoAlpha w before = eqb w alpha && eqb before alpha
+
+abbrev pub markOf : Settled → ℕ
+markOf (signal w) = w
+markOf phasing = 0
+markOf error = 255
+
+abbrev pub settledMark : ℕ → ℕ → ℕ
+settledMark dx rx = markOf (settled dx rx)
+
+abbrev pub aloneMark : ℕ → ℕ
+aloneMark dx = markOf (settledAlone dx)
+
+abbrev pub printingMark : Bool → ℕ → Bool
+printingMark printing m = printing || (eqb m carriageReturn || eqb m lineFeed)
+
+abbrev pub printedMark : Bool → ℕ → ℕ
+printedMark printing m =
+    if printingMark printing m then (if eqb m 255 then 255 else if leb (meaningOf m) 32 then m else 0) else 0
