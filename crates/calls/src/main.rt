@@ -1,4 +1,5 @@
 // One public call a record, so that rooms, cases and lengths can be tried that no filter reaches (docs/FORMATS.md).
+use mode_b::Slot;
 use signals::Case;
 use text::Encoded;
 use text::Printed;
@@ -37,7 +38,9 @@ fn wide(byte: u8) -> usize
     byte as usize
 }
 
-fn two_bytes(low: u8, high: u8) -> usize {
+fn two_bytes(low: u8, high: u8) -> usize
+    ensures { λ r. ⌜ r < 65536 ⌝ }
+{
     wide(high) * 256 + wide(low)
 }
 
@@ -158,6 +161,46 @@ fn with_room(kind: u8, list: &mut [u8], room: &mut [u8]) -> Ended {
     answer(kind, case, &mut list[..length], &mut room[..size])
 }
 
+fn four_bytes(head: &[u8; 6]) -> usize {
+    two_bytes(head[2], head[3]) * 65536 + two_bytes(head[0], head[1])
+}
+
+// Reads the text and asks for the slot.
+fn answer_slot(text: &mut [u8], number: usize) -> Ended {
+    let read = io::read_full(0, text);
+    if read != text.len() {
+        return Ended::Bad;
+    }
+    let bytes = past(7, text.len() as u64);
+    let slot = sending::slot(text, number);
+    match slot {
+        Slot::Word(word) => {
+            io::write_all(1, b"ok ");
+            io::print_decimal(1, word as u64);
+        }
+        Slot::TooLong => filters::write_refusal(1, 7, 8192),
+        Slot::BadWord(index) => filters::write_refusal(1, 3, index as u64),
+        Slot::PastLast(slots) => filters::write_refusal(1, 6, slots as u64),
+    }
+    io::write_all(1, b"\n");
+    Ended::Answered(bytes)
+}
+
+// The rest of a record of kind S: slot number, length, and the text.
+fn with_slot(list: &mut [u8]) -> Ended {
+    let mut head = [0u8; 6];
+    let got = io::read_full(0, &mut head);
+    if got != 6 {
+        return Ended::Bad;
+    }
+    let number = four_bytes(&head);
+    let length = two_bytes(head[4], head[5]);
+    if list.len() < length {
+        return Ended::Bad;
+    }
+    answer_slot(&mut list[..length], number)
+}
+
 fn record(list: &mut [u8], room: &mut [u8]) -> Ended {
     let mut kind = [0u8; 1];
     let got = io::read_full(0, &mut kind);
@@ -169,6 +212,9 @@ fn record(list: &mut [u8], room: &mut [u8]) -> Ended {
     }
     if kind[0] == b'P' {
         return with_room(b'P', list, room);
+    }
+    if kind[0] == b'S' {
+        return with_slot(list);
     }
     Ended::Bad
 }

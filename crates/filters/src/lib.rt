@@ -41,7 +41,7 @@ fn further(place: u64) -> u64 {
 }
 
 impl Reader {
-    fn new() -> Self {
+    pub fn new() -> Self {
         Reader {
             place: 0,
             start: 0,
@@ -94,7 +94,7 @@ impl Reader {
         }
     }
 
-    fn take(self, byte: u8) -> Took {
+    pub fn take(self, byte: u8) -> Took {
         if is_white(byte) {
             let after = Reader::between(further(self.place));
             if self.begun {
@@ -124,7 +124,7 @@ impl Reader {
     }
 
     // What the end of the input brings.
-    fn end(self) -> Event {
+    pub fn end(self) -> Event {
         if self.begun {
             return Event::Word(self.value);
         }
@@ -284,7 +284,7 @@ pub fn read_words(room: &mut [u8]) -> Gathered
 }
 
 // Writes one word, sixteen to a line; `column` words stand on the line already. Answers the column after it.
-fn write_word(column: usize, word: u8) -> usize {
+pub fn write_word(column: usize, word: u8) -> usize {
     if column != 0 {
         io::write_all(1, b" ");
     }
@@ -297,7 +297,7 @@ fn write_word(column: usize, word: u8) -> usize {
 }
 
 // Ends a line that has been begun.
-fn end_line(column: usize) {
+pub fn end_line(column: usize) {
     if column != 0 {
         io::write_all(1, b"\n");
     }
