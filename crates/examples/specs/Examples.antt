@@ -1,14 +1,14 @@
--- 01, Worked examples: "Those marked P are proved, as a single statement over a list of them."  R-151. The list grows
--- with the parts of 01 that are built.
+-- 01, Worked examples: "Those marked P are proved, as a single statement over a list of them."  R-151.
 -- Assumes nothing.
 use mathlib.Core.Bool.{Bool, true, _&&_}
 use mathlib.Core.List.{List, [], _∷_, _++_}
 use Rattle.examples.specs.Code.{codeExamples}
 use Rattle.examples.specs.Text.{textExamples}
 use Rattle.examples.specs.ModeA.{modeAExamples}
+use Rattle.examples.specs.ModeB.{modeBExamples}
 
 unfoldable pub examples : List Bool
-examples = codeExamples ++ textExamples ++ modeAExamples
+examples = codeExamples ++ textExamples ++ modeAExamples ++ modeBExamples
 
 unfoldable pub holds : List Bool → Bool
 holds [] = true

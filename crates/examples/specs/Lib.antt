@@ -1,9 +1,11 @@
--- 01, Worked examples, those marked P: a list for each part, and one list of them all. Those of mode B join with their part.
+-- 01, Worked examples, those marked P: a list for each part, and one list of them all.
 --     Code       the code
 --     Text       the text path
 --     ModeA      one station of mode A
+--     ModeB      the sender of mode B
 --     Examples   all of them
 pub mod Code
 pub mod Text
 pub mod ModeA
+pub mod ModeB
 pub mod Examples

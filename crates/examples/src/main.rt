@@ -1,4 +1,4 @@
-// Runs 01's worked examples that are not proved, and the limit of printing, and writes what each gives.
+// Runs 01's worked examples that are not proved, and the limits of printing and of mode B, and writes what each gives.
 use mode_a::Number;
 use mode_a::Offer;
 use mode_a::Place;
@@ -6,6 +6,11 @@ use mode_a::Role;
 use mode_a::Station;
 use mode_a::Stepped;
 use mode_a::Words;
+use mode_b::Hearing;
+use mode_b::Phasing;
+use mode_b::Received;
+use mode_b::Receiver;
+use mode_b::Slot;
 use signals::Case;
 use text::Encoded;
 use text::Printed;
@@ -131,9 +136,68 @@ fn count_31() {
     write_stepped(station::step(repeated_31(), Words(116, 0, 51), Offer::Nothing));
 }
 
+// How long a sending is: no sending reaches slot 65,535, so it is refused with the number of slots.
+fn write_length(text: &[u8]) {
+    let slot = sending::slot(text, 65535);
+    match slot {
+        Slot::Word(word) => {
+            io::print_decimal(1, word as u64);
+        }
+        Slot::TooLong => filters::write_refusal(1, 7, 8192),
+        Slot::BadWord(index) => filters::write_refusal(1, 3, index as u64),
+        Slot::PastLast(slots) => {
+            io::print_decimal(1, (slots / 2) as u64);
+            io::write_all(1, b" positions, ");
+            io::print_decimal(1, slots as u64);
+            io::write_all(1, b" slots");
+        }
+    }
+    io::write_all(1, b"\n");
+}
+
+fn lengths() {
+    io::write_all(1, b"send no signals: ");
+    write_length(b"");
+    io::write_all(1, b"send 94 signals: ");
+    write_length(&[71u8; 94]);
+    io::write_all(1, b"send 95 signals: ");
+    write_length(&[71u8; 95]);
+    io::write_all(1, b"send 190 signals: ");
+    write_length(&[71u8; 190]);
+    io::write_all(1, b"send 191 signals: ");
+    write_length(&[71u8; 191]);
+}
+
+fn send_limits() {
+    io::write_all(1, b"send 8192 signals: ");
+    write_length(&[71u8; 8192]);
+    io::write_all(1, b"send 8193 signals: ");
+    write_length(&[71u8; 8193]);
+}
+
+// A receiver that no run of steps reaches.
+fn search_run_4() {
+    let receiver = Receiver {
+        hearing: Hearing::Searching(4, Phasing::One),
+    };
+    io::write_all(1, b"receiver with a search run of 4: ");
+    let received = receiving::receive(receiver, signals::RQ);
+    match received {
+        Received::Done(_) => {
+            io::write_all(1, b"heard\n");
+        }
+        Received::BadReceiver(_) => {
+            io::write_all(1, b"refused 4 0\n");
+        }
+    }
+}
+
 fn main() {
     text();
     encode_limits();
     print_limits();
     count_31();
+    lengths();
+    send_limits();
+    search_run_4();
 }

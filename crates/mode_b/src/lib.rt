@@ -3,6 +3,11 @@
 ghost use mathlib.Core.Path.{_≡_};
 ghost use Rattle.mode_b.specs.Receiver.{freshReceiver};
 
+// The words of return and line feed.
+pub const CARRIAGE_RETURN: u8 = 120;
+
+pub const LINE_FEED: u8 = 108;
+
 // What the sender's call answers.
 pub enum Slot {
     // The word of the slot.

@@ -10,11 +10,7 @@ use mode_b::Phasing;
 use mode_b::Received;
 use mode_b::Receiver;
 
-// The words of return and line feed, and the error mark in a list of signals.
-const CARRIAGE_RETURN: u8 = 120;
-
-const LINE_FEED: u8 = 108;
-
+// The error mark in a list of signals.
 const ERROR_MARK: u8 = 255;
 
 fn hears(hearing: Hearing) -> Heard
@@ -171,10 +167,10 @@ fn printing_after(printing: bool, settled: u8) -> bool
     if printing {
         return true;
     }
-    if settled == CARRIAGE_RETURN {
+    if settled == mode_b::CARRIAGE_RETURN {
         return true;
     }
-    settled == LINE_FEED
+    settled == mode_b::LINE_FEED
 }
 
 // What a settled position prints once printing has begun, or by beginning it; 0 for nothing.
@@ -247,11 +243,11 @@ pub fn receive(receiver: Receiver, word: u8) -> Received
 {
     let hearing = receiver.hearing;
     match hearing {
-        Hearing::Searching(run, last) => {
-            if 3 < run {
+        Hearing::Searching(so_far, last) => {
+            if 3 < so_far {
                 return Received::BadReceiver(receiver);
             }
-            Received::Done(searched(run, last, word))
+            Received::Done(searched(so_far, last, word))
         }
         Hearing::InPhase(p) => {
             if p.dx {

@@ -8,11 +8,6 @@ ghost use Rattle.mode_b.specs.Sender.{dxOf, rxOf, Slots};
 ghost use Rattle.sending.specs.Places.{sentText, countOf, atOf, byAt};
 use mode_b::Slot;
 
-// The words of return and line feed.
-const CARRIAGE_RETURN: u8 = 120;
-
-const LINE_FEED: u8 = 108;
-
 // What stands at a position: a phasing pair, the traffic signal with an index (return and line feed are 0 and 1), or α.
 pub enum At {
     Phasing,
@@ -82,10 +77,10 @@ fn traffic(text: &[u8], index: usize) -> u8
     ensures { λ r. ⌜ r ≡ getD (sentText (now (text .entry))) index 0 ⌝ }
 {
     if index == 0 {
-        return CARRIAGE_RETURN;
+        return mode_b::CARRIAGE_RETURN;
     }
     if index == 1 {
-        return LINE_FEED;
+        return mode_b::LINE_FEED;
     }
     text[index - 2]
 }

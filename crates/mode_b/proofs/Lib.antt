@@ -1,0 +1,5 @@
+-- Laws of mode B that stand beside its calls.
+--     Unique    no second answer satisfies the promise of slot, of receive, or of the fresh receiver
+--     Refuted   wrong senders and receivers of another shape, told from the right ones
+pub mod Unique
+pub mod Refuted
