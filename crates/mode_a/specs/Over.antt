@@ -1,4 +1,4 @@
--- 01, The station: the case of a direction, and the over.  R-086 to R-091
+-- 01, The station: the case of a direction, and the over.  R-086, R-087, R-088, R-089, R-090, R-091
 --
 -- "The over is heard when ? follows + in figures case with only β between, within a block or across blocks; any other signal
 -- between cancels it". A shift is such another signal, also one to figures. ? is the figure of B, + of Z; in letters case they

@@ -24,7 +24,7 @@ use Rattle.mode_a.specs.Heard.{First, Cs, Cs3, Rq, Else, Heard}
 
 -- Sending "(holds a block, numbered 1 or 2; reads the first word only)"                                   R-048, R-049
 --     own        "Control signal of its own number: send the block again."              3.7.8, 3.7.9      R-050
---     other      "Of the other number: the block is confirmed; take the offer ..,       3.7.3, 3.7.7      R-051 to R-053
+--     other      "Of the other number: the block is confirmed; take the offer ..,       3.7.3, 3.7.7      R-051, R-052, R-053
 --                with the other number."
 --     CS3        "CS3: confirmed; send βαβ, go to Turning."                             3.7.11.4          R-058, R-059
 --     all else   "All else: send RQ RQ RQ."                                             3.7.10            R-060

@@ -1,4 +1,4 @@
--- 01, The station: bursts, numbers, and fresh stations.  R-041 to R-046, R-092 to R-095
+-- 01, The station: bursts, numbers, and fresh stations.  R-041, R-042, R-043, R-044, R-045, R-046, R-092, R-093, R-094, R-095
 -- Assumes nothing.
 use mathlib.Core.Bool.{Bool, true, false}
 use mathlib.Core.List.{List, [], _∷_}
@@ -51,7 +51,7 @@ asksFor One = single cs1
 asksFor Two = single cs2
 
 -- "A fresh master is Opening. A fresh slave is Receiving, awaits 1, and its first burst is CS1. Both start with count 0,
--- letters case and no + heard."  R-092 to R-095
+-- letters case and no + heard."  R-092, R-093, R-094, R-095
 abbrev pub freshMaster : Station
 freshMaster = record { role = Master; place = Opening; count = 0; case = Letters; plus = false }
 

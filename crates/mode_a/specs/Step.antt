@@ -39,7 +39,7 @@ abbrev pub sends : Station → Words → Reply
 sends s w = record { station = s; sent = w; printed = silence; taken = false }
 
 -- "take the offer (nothing counts as taken too) .. Text gives that block, nothing gives βββ, over gives figures + ?, end gives
--- ααα and place Ending."  R-052 to R-057
+-- ααα and place Ending."  R-052, R-053, R-054, R-055, R-056, R-057
 abbrev pub holds : Station → Number → Words → Reply
 holds s n w =
     record { station = movedTo s (Sending (record { number = n; block = w })); sent = w; printed = silence; taken = true }
@@ -69,7 +69,7 @@ isOver Offer.End = false
 isOver Offer.Nothing = false
 
 -- "it awaits the other number and asks for it by CS1 or CS2. But if the over was heard in this block, or the offer is over, it
--- sends CS3 and goes to Asking (an over offered then counts as taken, no other offer does)."  R-075 to R-079
+-- sends CS3 and goes to Asking (an over offered then counts as taken, no other offer does)."  R-075, R-076, R-077, R-078, R-079
 abbrev pub heardAt : Station → Place → Listening → Station
 heardAt s p l = record { role = s .role; place = p; count = 0; case = l .case; plus = l .plus }
 
@@ -83,7 +83,7 @@ acceptsBy s n b false l =
 abbrev pub accepts : Station → Number → Words → Offer → Reply
 accepts s n b o = acceptsBy s n b (isOver o) (listenedAll (s .case) (s .plus) b)
 
--- "Repetition count: steps in a row .. The 32nd makes it Lost and silent, with no offer taken."  R-096 to R-099
+-- "Repetition count: steps in a row .. The 32nd makes it Lost and silent, with no offer taken."  R-096, R-097, R-098, R-099
 abbrev pub repeats : Station → Words → Reply
 repeats s w =
     if leb 31 (s .count) then sends (movedTo s Lost) silence
@@ -98,8 +98,8 @@ done s b o Opens = sends (cancelledTo s Opening) (requests (s .role))
 done s b o (Accepts n) = accepts s n b o
 
 -- 01, Numbers returned, for the step. "mode A step 4, 3"
---     4   "station with count over 31, an Ending total not 1 to 4, or a held word neither traffic nor β"      "0"
---     3   "a word that may not stand there: text offer (traffic, β)"                                         "index of the first"
+--     4   "station with count over 31, an Ending total not 1 to 4, or a held word neither traffic nor β"      "0"                     R-129
+--     3   "a word that may not stand there: text offer (traffic, β)"                                         "index of the first"    R-128
 -- Both are judged at every place.
 abbrev pub soundPlace : Place → Bool
 soundPlace (Sending h) = leb 3 (firstNot mayHold (listOf (h .block)))

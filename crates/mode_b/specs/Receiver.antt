@@ -20,7 +20,7 @@ use Rattle.mode_b.specs.Sender.{carriageReturn, lineFeed}
 abbrev pub freshReceiver : Receiver
 freshReceiver = record { hearing = Searching 0 Phasing.One }
 
--- the receiver, and nothing printed; or a signal printed, 255 for an error
+-- "answers the receiver and at most one printed signal, 255 for an error"  R-111: 0 for none
 abbrev pub hears : Hearing → Heard
 hears h = record { receiver = record { hearing = h }; printed = 0 }
 
@@ -59,16 +59,16 @@ searched k last w =
     else if eqb w rq then searchedOn (runOf k last Phasing.Two) Phasing.Two
     else hears (Searching 0 Phasing.One)
 
--- "At an RX slot the position is settled": to a signal, to phasing, or to an error  R-115 to R-119
+-- "At an RX slot the position is settled": to a signal, to phasing, or to an error  R-115
 pub data Settled : Type 0 where
   signal : (word : ℕ) → Settled
   phasing : Settled
   error : Settled
 
---     alike     "both copies intact and alike, that signal"
---     phasing   "RQ then α, phasing"
---     one       "only one intact, that one"
---     else      "otherwise an error"
+--     alike     "both copies intact and alike, that signal"  R-116
+--     phasing   "RQ then α, phasing"                         R-117
+--     one       "only one intact, that one"                  R-118
+--     else      "otherwise an error"                         R-119
 unfoldable pub settled : ℕ → ℕ → Settled
 settled dx rx =
     if intactOf dx && (intactOf rx && eqb dx rx) then signal dx
@@ -104,7 +104,7 @@ heardRx p w =
     (printedOf (p .printing) (settled (p .first) w))
 
 -- In a DX slot the word waits. "Two successive intact α in DX end reception at once: the one position before them is settled by its
--- DX alone, and the receiver searches anew."  R-122 to R-124: the third word is the DX before this one, the second the one before
+-- DX alone, and the receiver searches anew."  R-122, R-123, R-124: the third word is the DX before this one, the second the one before
 -- that, and the first has been settled.
 unfoldable pub heardDx : Phase → ℕ → Heard
 heardDx p w =

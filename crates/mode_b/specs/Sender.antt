@@ -10,7 +10,7 @@ use Rattle.signals.specs.Meaning.{wordNo, trafficOf, alpha, rq}
 use Rattle.signals.specs.Numbers.{Answer, answered, refused, firstNot}
 use Rattle.mode_b.specs.declared.Slot.{Slot}
 
--- a position, by what is sent there: a phasing pair, a traffic signal, or α
+-- Positions are numbered from 0, by their place in a list.  R-101. A position, by what is sent there: a phasing pair, a traffic signal, or α
 pub data Position : Type 0 where
   phasing : Position
   signal : (word : ℕ) → Position
@@ -40,7 +40,7 @@ withBreaks k [] = []
 withBreaks k (w ∷ ws) =
     if eqb k 96 then replicate 4 phasing ++ signal w ∷ withBreaks 1 ws else signal w ∷ withBreaks (k + 1) ws
 
--- "Order sent: 16 phasing positions, return, line feed, the text; .. then 17 α positions."  R-105 to R-108
+-- "Order sent: 16 phasing positions, return, line feed, the text; .. then 17 α positions."  R-105, R-106, R-108
 unfoldable pub positionsOf : List ℕ → List Position
 positionsOf text =
     replicate 16 phasing ++ withBreaks 0 (carriageReturn ∷ lineFeed ∷ text) ++ replicate 17 idle

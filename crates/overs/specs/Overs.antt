@@ -1,4 +1,4 @@
--- 01, The station: the over, told from the signals that a station has accepted.  R-086 to R-091
+-- 01, The station: the over, told from the signals that a station has accepted.  R-086, R-087, R-088, R-089, R-090, R-091
 --
 -- "The over is heard when ? follows + in figures case with only β between, within a block or across blocks; any other signal
 -- between cancels it, and so does the step from Asking to Opening or from Turning to Receiving. Only accepted blocks count here.
@@ -131,7 +131,7 @@ caseAfter c (w ∷ ws) = caseAfter (caseAt c w) ws
 
 -- The over is heard in `block`: `list` is what was accepted since the last cancelling step, `earlier` what was accepted before
 -- it, and c the case at the start. The list with the block behind it is a beginning, a +, β any number of times, a ? that stands
--- in the block, and a rest; and figures case is in force where the + and where the ? stand.  R-086 to R-088
+-- in the block, and a rest; and figures case is in force where the + and where the ? stand.  R-086, R-087, R-088
 pub record HeardOver (c : Case) (earlier list block : List ℕ) : Type 0 where
   pub beginning : List ℕ
   pub betas : ℕ

@@ -1,4 +1,4 @@
--- 01, The code: what a word means.  R-019 to R-021, R-023 to R-025
+-- 01, The code: what a word means.  R-019, R-020, R-021, R-023, R-024, R-025
 -- Assumes nothing.
 use mathlib.Core.Bool.{Bool, _&&_}
 use mathlib.Core.List.{List, [], _∷_}

@@ -1,4 +1,4 @@
--- 01, The code: "A word is a byte. The unit sent first is bit 0, B is 1, Y is 0, bit 7 is 0."  R-010 to R-015
+-- 01, The code: "A word is a byte. The unit sent first is bit 0, B is 1, Y is 0, bit 7 is 0."  R-010, R-011, R-012, R-013, R-014, R-015
 --
 -- 001, table 1, note 3, writes B as 0 and Y as 1. 01 turns this round, and 01 decides.
 -- Assumes nothing.

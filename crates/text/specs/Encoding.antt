@@ -1,4 +1,4 @@
--- 01, Text: characters to signals.  R-026 to R-031, R-038
+-- 01, Text: characters to signals.  R-026, R-027, R-028, R-029, R-030, R-031, R-038
 -- Assumes nothing.
 use mathlib.Core.Path.{_≡_}
 use mathlib.Core.Bool.{Bool, true, false}

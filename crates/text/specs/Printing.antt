@@ -1,4 +1,4 @@
--- 01, Text: signals to characters.  R-032 to R-036, R-038
+-- 01, Text: signals to characters.  R-032, R-033, R-034, R-035, R-036, R-038
 -- Assumes nothing.
 use mathlib.Core.Path.{_≡_}
 use mathlib.Core.Bool.{Bool, _||_}

@@ -1,0 +1,19 @@
+-- Mode B, from the sender's slots to what is printed (01, Mode B).
+--     WordLaws          the words of a broadcast as a receiver tells them apart
+--     HearLaws          a fresh receiver is never refused; to listen late is to lose what came before
+--     StepLaws          one slot of a receiver in phase, and what a position is settled to
+--     QuietLaws         behind the end nothing is printed
+--     SearchLaws        four phasing signals kept before the text bring the receiver into phase
+--     CopyLaws          the perfect copy
+--     Needs             each clause of its premise is needed
+--     ReadingLaws       no wrong signal, under any damage
+--     ReadingExamples   what a reader sees at a lost phasing, a break and a damaged end
+pub mod WordLaws
+pub mod HearLaws
+pub mod StepLaws
+pub mod QuietLaws
+pub mod SearchLaws
+pub mod CopyLaws
+pub mod Needs
+pub mod ReadingLaws
+pub mod ReadingExamples

@@ -1,0 +1,382 @@
+-- No wrong signal: what a fresh receiver prints under any damage that is never one of the 35. Assumes nothing.
+use mathlib.Core.Path.{_≡_, refl, ap, sym, _∙_}
+use mathlib.Core.Bool.{Bool, true, false, _&&_, false≢true}
+use mathlib.Core.Logic.{_↔_, inl, inr}
+use mathlib.Core.List.{List, [], _∷_, _++_}
+use Prim.Native.Nat.{ℕ, suc}
+use native.Mathlib.Omega.{arith}
+use lib.Dec.{eqb}
+use lib.ListN.{replicate}
+use Rattle.laws.specs.Choice.{if_then_else_}
+use Rattle.signals.specs.Units.{intactOf, onesOf}
+use Rattle.signals.specs.Meaning.{trafficOf, meaningOf, alpha, rq}
+use Rattle.mode_b.specs.declared.Phasing.{Phasing}
+use Rattle.mode_b.specs.declared.Receiver.{Receiver}
+use Rattle.mode_b.specs.Sender.{Position, dxOf, rxOf, carriageReturn, lineFeed, withBreaks, positionsOf, slotsFrom, slotsOf}
+use Rattle.mode_b.specs.Receiver.{Settled, settled, settledAlone, printedOf, printingAfter, begins, errorMark, heardRx, freshReceiver, receiving, receiverAfter}
+use Rattle.copy.specs.Run.{Hurt, kept, hurt, hear, Damage, NoSignal, one, printsOf, heardFrom, listen, copyFrom, deafBefore}
+use Rattle.copy.specs.Premise.{Text}
+use Rattle.copy.specs.Reading.{twoOn, fiveOn, damaged, intactα, endsBehind, lost, seen, seenFrom, Printed, nothing, here, behind, InOrder, done, passed, sent, marked}
+use Rattle.copy.proofs.WordLaws.{mutilated, Traffic}
+use Rattle.copy.proofs.StepLaws.{inPhase, seeking, dx-ends, waits-settles, settles-counted, settles-signal, settles-phasing, settles-idle, settles-error, settles-unbegun, Quiet}
+use Rattle.copy.proofs.QuietLaws.{Word, AllIdle, rx-not-rq, quiet-behind}
+use Rattle.copy.proofs.HearLaws.{late-is-deaf, deaf-no-signal}
+use Rattle.copy.proofs.CopyLaws.{AllSent, breaks-sent}
+
+-- the positions of a broadcast: phasing and traffic, and then α only
+abbrev Ordered : List Position → Type 0
+Ordered [] = Unit {0}
+Ordered (Position.phasing ∷ ps) = Ordered ps
+Ordered (Position.signal w ∷ ps) = Traffic w × Ordered ps
+Ordered (Position.idle ∷ ps) = AllIdle ps
+
+idle-ordered : (ps : List Position) → AllIdle ps → Ordered ps
+idle-ordered [] o = tt
+idle-ordered (Position.phasing ∷ ps) o = absurd o
+idle-ordered (Position.signal w ∷ ps) o = absurd o
+idle-ordered (Position.idle ∷ ps) o = o
+
+word : (p : Position) (ps : List Position) → Ordered (p ∷ ps) → Word p
+word Position.phasing ps o = tt
+word (Position.signal w) ps o = o .0
+word Position.idle ps o = tt
+
+rest : (p : Position) (ps : List Position) → Ordered (p ∷ ps) → Ordered ps
+rest Position.phasing ps o = o
+rest (Position.signal w) ps o = o .1
+rest Position.idle ps o = idle-ordered ps o
+
+idle-rest : (p : Position) (h : Hurt) (ps : List Position) → intactα p h ≡ true → Ordered (p ∷ ps) → AllIdle ps
+idle-rest Position.phasing h ps e o = absurd (false≢true e)
+idle-rest (Position.signal w) h ps e o = absurd (false≢true e)
+idle-rest Position.idle h ps e o = o
+
+-- α is heard in a DX slot exactly where it is sent there and kept
+alpha-heard : (p : Position) → Word p → (h : Hurt) → NoSignal h → eqb (hear h (dxOf p)) alpha ≡ intactα p h
+alpha-heard Position.phasing s kept n = refl
+alpha-heard (Position.signal w) s kept n = s .not-alpha
+alpha-heard Position.idle s kept n = refl
+alpha-heard Position.phasing s (hurt v) n = mutilated v n .not-alpha
+alpha-heard (Position.signal w) s (hurt v) n = mutilated v n .not-alpha
+alpha-heard Position.idle s (hurt v) n = mutilated v n .not-alpha
+
+-- What a position prints once printing has begun, by its copies and by its DX alone.
+sees : (p : Position) → Word p → (a b : Hurt) → NoSignal a → NoSignal b → (one (printedOf true (settled (hear a (dxOf p)) (hear b (rxOf p)))) ≡ seen p (damaged a && damaged b)) × (printingAfter true (settled (hear a (dxOf p)) (hear b (rxOf p))) ≡ true)
+sees Position.phasing s kept b m n = settles-phasing true kept b m n (inl refl)
+sees Position.phasing s (hurt u) kept m n = settles-phasing true (hurt u) kept m n (inr refl)
+sees Position.phasing s (hurt u) (hurt v) m n = rw (settles-error u v (mutilated u m) (mutilated v n)) (refl, refl)
+sees (Position.signal w) s kept b m n = rw (settles-signal w s kept b m n (inl refl), s .is-traffic, s .not-zero) (refl, refl)
+sees (Position.signal w) s (hurt u) kept m n =
+    rw (settles-signal w s (hurt u) kept m n (inr refl), s .is-traffic, s .not-zero) (refl, refl)
+sees (Position.signal w) s (hurt u) (hurt v) m n = rw (settles-error u v (mutilated u m) (mutilated v n)) (refl, refl)
+sees Position.idle s kept b m n = settles-idle true kept b m n (inl refl)
+sees Position.idle s (hurt u) kept m n = settles-idle true (hurt u) kept m n (inr refl)
+sees Position.idle s (hurt u) (hurt v) m n = rw (settles-error u v (mutilated u m) (mutilated v n)) (refl, refl)
+
+sees-alone : (p : Position) → Word p → (a : Hurt) → NoSignal a → one (printedOf true (settledAlone (hear a (dxOf p)))) ≡ seen p (damaged a)
+unfolding settledAlone intactOf onesOf trafficOf meaningOf
+sees-alone Position.phasing s kept m = refl
+sees-alone (Position.signal w) s kept m = rw (s .is-intact, s .is-traffic, s .not-zero)
+sees-alone Position.idle s kept m = refl
+sees-alone Position.phasing s (hurt u) m = rw (mutilated u m .not-intact)
+sees-alone (Position.signal w) s (hurt u) m = rw (mutilated u m .not-intact)
+sees-alone Position.idle s (hurt u) m = rw (mutilated u m .not-intact)
+
+-- Before printing has begun: nothing is printed, or it begins.
+data First (p : Position) (missing : Bool) (s : Settled) : Type 0 where
+  quiet : Quiet false s → First p missing s
+  opens : (w : ℕ) → p ≡ Position.signal w → begins w ≡ true → missing ≡ false → one (printedOf false s) ≡ w ∷ [] → printingAfter false s ≡ true → First p missing s
+
+opening : (w : ℕ) → Traffic w → (missing : Bool) → missing ≡ false → First (Position.signal w) missing (Settled.signal w)
+opening w s missing e = go (begins w) refl
+  where
+    go : (t : Bool) → begins w ≡ t → First (Position.signal w) missing (Settled.signal w)
+    go true b = opens w refl b e (rw (b, s .is-traffic, s .not-zero)) b
+    go false b = quiet (rw b (refl, refl))
+
+firsts : (p : Position) → Word p → (a b : Hurt) → NoSignal a → NoSignal b → First p (damaged a && damaged b) (settled (hear a (dxOf p)) (hear b (rxOf p)))
+firsts Position.phasing s a b m n = quiet (settles-unbegun a b m n)
+firsts (Position.signal w) s kept b m n = rw (settles-signal w s kept b m n (inl refl)) (opening w s false refl)
+firsts (Position.signal w) s (hurt u) kept m n = rw (settles-signal w s (hurt u) kept m n (inr refl)) (opening w s false refl)
+firsts (Position.signal w) s (hurt u) (hurt v) m n = rw (settles-error u v (mutilated u m) (mutilated v n)) (quiet (refl, refl))
+firsts Position.idle s kept b m n = quiet (settles-idle false kept b m n (inl refl))
+firsts Position.idle s (hurt u) kept m n = quiet (settles-idle false (hurt u) kept m n (inr refl))
+firsts Position.idle s (hurt u) (hurt v) m n = rw (settles-error u v (mutilated u m) (mutilated v n)) (quiet (refl, refl))
+
+first-alone : (p : Position) → Word p → (a : Hurt) → NoSignal a → First p (damaged a) (settledAlone (hear a (dxOf p)))
+unfolding settledAlone intactOf onesOf
+first-alone Position.phasing s kept m = quiet (refl, refl)
+first-alone (Position.signal w) s kept m = rw (s .is-intact) (opening w s false refl)
+first-alone Position.idle s kept m = quiet (refl, refl)
+first-alone Position.phasing s (hurt u) m = rw (mutilated u m .not-intact) (quiet (refl, refl))
+first-alone (Position.signal w) s (hurt u) m = rw (mutilated u m .not-intact) (quiet (refl, refl))
+first-alone Position.idle s (hurt u) m = rw (mutilated u m .not-intact) (quiet (refl, refl))
+
+counted : (p : Position) → Word p → (b : Hurt) → NoSignal b → Quiet false (settled rq (hear b (rxOf p)))
+counted Position.phasing s b n = settles-phasing false kept b tt n (inl refl)
+counted (Position.signal w) s kept n = settles-counted w s
+counted (Position.signal w) s (hurt v) n = settles-phasing false kept (hurt v) tt n (inl refl)
+counted Position.idle s b n = settles-phasing false kept b tt n (inl refl)
+
+and-swap : (a b : Bool) → a && b ≡ b && a
+and-swap true true = refl
+and-swap true false = refl
+and-swap false true = refl
+and-swap false false = refl
+
+and-left : (a b : Bool) → a && b ≡ true → a ≡ true
+and-left true b e = refl
+and-left false b e = e
+
+module _ (d : Damage) (good : (k : ℕ) → NoSignal (d k)) where
+  -- the two DX slots behind position k end reception exactly where two α are kept there
+  ending : (k : ℕ) (q r : Position) → Word q → Word r → eqb (hear (d (twoOn (twoOn k))) (dxOf r)) alpha && eqb (hear (d (twoOn k)) (dxOf q)) alpha ≡ endsBehind d k q r
+  ending k q r s t = rw (alpha-heard r t (d (twoOn (twoOn k))) (good (twoOn (twoOn k))), alpha-heard q s (d (twoOn k)) (good (twoOn k))) (and-swap (intactα r (d (twoOn (twoOn k)))) (intactα q (d (twoOn k))))
+
+  -- the words from slot k on, where the next position is p
+  abbrev heardOn : ℕ → Position → Position → List Position → List ℕ
+  heardOn k before last ps = heardFrom d k (slotsFrom before last ps)
+
+  -- after the end nothing is printed
+  more-idle : (r : Position) (ps : List Position) → AllIdle (r ∷ ps) → AllIdle ps
+  more-idle Position.phasing ps i = absurd i
+  more-idle (Position.signal w) ps i = absurd i
+  more-idle Position.idle ps i = i
+
+  after-end : (j : ℕ) (before q r : Position) (ps : List Position) (h : Hurt) → Word before → Ordered (q ∷ r ∷ ps) → intactα q h ≡ true → listen freshReceiver (hear (d j) (rxOf before) ∷ heardOn (suc j) q r ps) ≡ []
+  after-end j before q r ps h b o e =
+      quiet-behind d good j before q r ps b (word q (r ∷ ps) o) (word r ps (rest q (r ∷ ps) o)) (more-idle r ps (idle-rest q h (r ∷ ps) e o))
+
+  -- once printing has begun
+  begun : (ps : List Position) (k first : ℕ) (before last : Position) → Ordered (before ∷ last ∷ ps) → listen (inPhase first (hear (d k) (dxOf before)) (hear (d (twoOn k)) (dxOf last)) true true) (heardOn (twoOn (twoOn k)) before last ps) ≡ seenFrom d k (before ∷ last ∷ ps)
+  unfolding listen heardFrom slotsFrom seenFrom
+  begun [] k first before last o = refl
+  begun (p ∷ ps) k first before last o = go (endsBehind d k last p) refl (begun ps (twoOn k) (hear (d k) (dxOf before)) last p (rest before (last ∷ p ∷ ps) o))
+    where
+      sb : Word before
+      sb = word before (last ∷ p ∷ ps) o
+
+      ol : Ordered (last ∷ p ∷ ps)
+      ol = rest before (last ∷ p ∷ ps) o
+
+      test : eqb (hear (d (twoOn (twoOn k))) (dxOf p)) alpha && eqb (hear (d (twoOn k)) (dxOf last)) alpha ≡ endsBehind d k last p
+      test = ending k last p (word last (p ∷ ps) ol) (word p ps (rest last (p ∷ ps) ol))
+
+      go : (t : Bool) → endsBehind d k last p ≡ t → listen (inPhase (hear (d k) (dxOf before)) (hear (d (twoOn k)) (dxOf last)) (hear (d (twoOn (twoOn k))) (dxOf p)) true true) (heardOn (twoOn (twoOn (twoOn k))) last p ps) ≡ seenFrom d (twoOn k) (last ∷ p ∷ ps) → listen (inPhase first (hear (d k) (dxOf before)) (hear (d (twoOn k)) (dxOf last)) true true) (heardOn (twoOn (twoOn k)) before last (p ∷ ps)) ≡ seen before (lost d k last p) ++ (if endsBehind d k last p then [] else seenFrom d (twoOn k) (last ∷ p ∷ ps))
+      go true e ih =
+          dx-ends first (hear (d k) (dxOf before)) (hear (d (twoOn k)) (dxOf last)) true (hear (d (twoOn (twoOn k))) (dxOf p)) (hear (d (fiveOn k)) (rxOf before) ∷ heardOn (twoOn (twoOn (twoOn k))) last p ps) (test ∙ e)
+          ∙ rw (after-end (fiveOn k) before last p ps (d (twoOn k)) sb ol (and-left (intactα last (d (twoOn k))) (intactα p (d (twoOn (twoOn k)))) e), sees-alone before sb (d k) (good k), e)
+      go false e ih =
+          let s = sees before sb (d k) (d (fiveOn k)) (good k) (good (fiveOn k)) in
+          waits-settles first (hear (d k) (dxOf before)) (hear (d (twoOn k)) (dxOf last)) true (hear (d (twoOn (twoOn k))) (dxOf p)) (hear (d (fiveOn k)) (rxOf before)) (heardOn (twoOn (twoOn (twoOn k))) last p ps) (test ∙ e) ∙ rw (s .0, s .1, e, ih)
+
+  -- in phase, before printing has begun
+  printed-as : {k : ℕ} {ps : List Position} {xs ys : List ℕ} → xs ≡ ys → Printed d k ps ys → Printed d k ps xs
+  printed-as e p = rw e p
+
+  opened : (k w : ℕ) (p q r : Position) (ps : List Position) → p ≡ Position.signal w → begins w ≡ true → lost d k q r ≡ false → Printed d k (p ∷ q ∷ r ∷ ps) (w ∷ (if endsBehind d k q r then [] else seenFrom d (twoOn k) (q ∷ r ∷ ps)))
+  opened k w p q r ps e b l = rw e (printed-as (sym shown) (here b l))
+    where
+      shown : seenFrom d k (Position.signal w ∷ q ∷ r ∷ ps) ≡ w ∷ (if endsBehind d k q r then [] else seenFrom d (twoOn k) (q ∷ r ∷ ps))
+      shown = unfold seenFrom in (rw l)
+
+  unbegun : (ps : List Position) (k first : ℕ) (before last : Position) → Ordered (before ∷ last ∷ ps) → Printed d k (before ∷ last ∷ ps) (listen (inPhase first (hear (d k) (dxOf before)) (hear (d (twoOn k)) (dxOf last)) true false) (heardOn (twoOn (twoOn k)) before last ps))
+  unfolding listen heardFrom slotsFrom
+  unbegun [] k first before last o = nothing
+  unbegun (p ∷ ps) k first before last o = go (endsBehind d k last p) refl (unbegun ps (twoOn k) (hear (d k) (dxOf before)) last p (rest before (last ∷ p ∷ ps) o))
+    where
+      sb : Word before
+      sb = word before (last ∷ p ∷ ps) o
+
+      ol : Ordered (last ∷ p ∷ ps)
+      ol = rest before (last ∷ p ∷ ps) o
+
+      test : eqb (hear (d (twoOn (twoOn k))) (dxOf p)) alpha && eqb (hear (d (twoOn k)) (dxOf last)) alpha ≡ endsBehind d k last p
+      test = ending k last p (word last (p ∷ ps) ol) (word p ps (rest last (p ∷ ps) ol))
+
+      ended : endsBehind d k last p ≡ true → First before (damaged (d k)) (settledAlone (hear (d k) (dxOf before))) → Printed d k (before ∷ last ∷ p ∷ ps) (one (printedOf false (settledAlone (hear (d k) (dxOf before)))) ++ [])
+      ended e (quiet q) = rw (q .0) nothing
+      ended e (opens w b c m x y) = rw x (printed-as (rw e) (opened k w before last p ps b c (rw e m)))
+
+      next : listen (inPhase (hear (d k) (dxOf before)) (hear (d (twoOn k)) (dxOf last)) (hear (d (twoOn (twoOn k))) (dxOf p)) true true) (heardOn (twoOn (twoOn (twoOn k))) last p ps) ≡ seenFrom d (twoOn k) (last ∷ p ∷ ps)
+      next = begun ps (twoOn k) (hear (d k) (dxOf before)) last p ol
+
+      on : endsBehind d k last p ≡ false → Printed d (twoOn k) (last ∷ p ∷ ps) (listen (inPhase (hear (d k) (dxOf before)) (hear (d (twoOn k)) (dxOf last)) (hear (d (twoOn (twoOn k))) (dxOf p)) true false) (heardOn (twoOn (twoOn (twoOn k))) last p ps)) → First before (damaged (d k) && damaged (d (fiveOn k))) (settled (hear (d k) (dxOf before)) (hear (d (fiveOn k)) (rxOf before))) → Printed d k (before ∷ last ∷ p ∷ ps) (one (printedOf false (settled (hear (d k) (dxOf before)) (hear (d (fiveOn k)) (rxOf before)))) ++ listen (inPhase (hear (d k) (dxOf before)) (hear (d (twoOn k)) (dxOf last)) (hear (d (twoOn (twoOn k))) (dxOf p)) true (printingAfter false (settled (hear (d k) (dxOf before)) (hear (d (fiveOn k)) (rxOf before))))) (heardOn (twoOn (twoOn (twoOn k))) last p ps))
+      on e ih (quiet q) = rw (q .0, q .1) (behind ih)
+      on e ih (opens w b c m x y) = rw (x, y, next) (printed-as (rw e) (opened k w before last p ps b c (rw e m)))
+
+      go : (t : Bool) → endsBehind d k last p ≡ t → Printed d (twoOn k) (last ∷ p ∷ ps) (listen (inPhase (hear (d k) (dxOf before)) (hear (d (twoOn k)) (dxOf last)) (hear (d (twoOn (twoOn k))) (dxOf p)) true false) (heardOn (twoOn (twoOn (twoOn k))) last p ps)) → Printed d k (before ∷ last ∷ p ∷ ps) (listen (inPhase first (hear (d k) (dxOf before)) (hear (d (twoOn k)) (dxOf last)) true false) (heardOn (twoOn (twoOn k)) before last (p ∷ ps)))
+      go true e ih =
+          printed-as
+          (dx-ends first (hear (d k) (dxOf before)) (hear (d (twoOn k)) (dxOf last)) false (hear (d (twoOn (twoOn k))) (dxOf p)) (hear (d (fiveOn k)) (rxOf before) ∷ heardOn (twoOn (twoOn (twoOn k))) last p ps) (test ∙ e)
+          ∙ rw (after-end (fiveOn k) before last p ps (d (twoOn k)) sb ol (and-left (intactα last (d (twoOn k))) (intactα p (d (twoOn (twoOn k)))) e)))
+          (ended e (first-alone before sb (d k) (good k)))
+      go false e ih =
+          printed-as
+          (waits-settles first (hear (d k) (dxOf before)) (hear (d (twoOn k)) (dxOf last)) false (hear (d (twoOn (twoOn k))) (dxOf p)) (hear (d (fiveOn k)) (rxOf before)) (heardOn (twoOn (twoOn (twoOn k))) last p ps) (test ∙ e))
+          (on e ih (firsts before sb (d k) (d (fiveOn k)) (good k) (good (fiveOn k))))
+
+  -- just in phase: one waiting word, or both, taken for RQ
+  one-counted : (ps : List Position) (k first : ℕ) (before last : Position) → Word before → Ordered (last ∷ ps) → Printed d k (last ∷ ps) (listen (inPhase first rq (hear (d k) (dxOf last)) true false) (heardOn (twoOn k) before last ps))
+  unfolding listen heardFrom slotsFrom
+  one-counted [] k first before last s o = nothing
+  one-counted (p ∷ ps) k first before last s o = go (intactα last (d k) && intactα p (d (twoOn k))) refl
+    where
+      test : eqb (hear (d (twoOn k)) (dxOf p)) alpha && eqb (hear (d k) (dxOf last)) alpha ≡ intactα last (d k) && intactα p (d (twoOn k))
+      test =
+          rw (alpha-heard p (word p ps (rest last (p ∷ ps) o)) (d (twoOn k)) (good (twoOn k)), alpha-heard last (word last (p ∷ ps) o) (d k) (good k))
+          (and-swap (intactα p (d (twoOn k))) (intactα last (d k)))
+
+      alone : one (printedOf false (settledAlone rq)) ≡ []
+      alone = unfold settledAlone intactOf onesOf in refl
+
+      go : (t : Bool) → intactα last (d k) && intactα p (d (twoOn k)) ≡ t → Printed d k (last ∷ p ∷ ps) (listen (inPhase first rq (hear (d k) (dxOf last)) true false) (heardOn (twoOn k) before last (p ∷ ps)))
+      go true e =
+          printed-as
+          (dx-ends first rq (hear (d k) (dxOf last)) false (hear (d (twoOn k)) (dxOf p)) (hear (d (suc (twoOn k))) (rxOf before) ∷ heardOn (twoOn (twoOn k)) last p ps) (test ∙ e)
+          ∙ rw (after-end (suc (twoOn k)) before last p ps (d k) s o (and-left (intactα last (d k)) (intactα p (d (twoOn k))) e), alone))
+          nothing
+      go false e =
+          let q = counted before s (d (suc (twoOn k))) (good (suc (twoOn k))) in
+          printed-as
+          (waits-settles first rq (hear (d k) (dxOf last)) false (hear (d (twoOn k)) (dxOf p)) (hear (d (suc (twoOn k))) (rxOf before)) (heardOn (twoOn (twoOn k)) last p ps) (test ∙ e))
+          (rw (q .0, q .1) (unbegun ps k rq last p o))
+
+  both-counted : (ps : List Position) (k first : ℕ) (before last : Position) → Word before → Word last → Ordered ps → Printed d k ps (listen (inPhase first rq rq true false) (heardOn k before last ps))
+  unfolding listen heardFrom slotsFrom
+  both-counted [] k first before last s t o = nothing
+  both-counted (p ∷ ps) k first before last s t o =
+      let q = counted before s (d (suc k)) (good (suc k)) in
+      printed-as
+      (waits-settles first rq rq false (hear (d k) (dxOf p)) (hear (d (suc k)) (rxOf before)) (heardOn (twoOn k) last p ps) (and-swap (eqb (hear (d k) (dxOf p)) alpha) false))
+      (rw (q .0, q .1) (one-counted ps k rq last p t o))
+
+-- The search. Before a DX slot the last signal of a run is α: RQ is never heard in an RX slot.
+data BeforeDx : Receiver → Type 0 where
+  dx0 : (s : Phasing) → BeforeDx (seeking 0 s)
+  dx1 : BeforeDx (seeking 1 Phasing.One)
+  dx2 : BeforeDx (seeking 2 Phasing.One)
+  dx3 : BeforeDx (seeking 3 Phasing.One)
+
+data BeforeRx : Receiver → Type 0 where
+  rx0 : (s : Phasing) → BeforeRx (seeking 0 s)
+  rx1 : (s : Phasing) → BeforeRx (seeking 1 s)
+  rx2 : BeforeRx (seeking 2 Phasing.Two)
+  rx3 : BeforeRx (seeking 3 Phasing.Two)
+  rx-locked : BeforeRx (inPhase rq rq rq false false)
+
+data Next : Receiver → Type 0 where
+  seeks : {r : Receiver} → BeforeDx r → Next r
+  locks : Next (inPhase rq rq rq true false)
+
+abbrev Dx : Receiver → ℕ → Type 0
+Dx r v = (printsOf (receiving r v) ≡ []) × BeforeRx (receiverAfter r (receiving r v))
+
+abbrev Rx : Receiver → ℕ → Type 0
+Rx r v = (printsOf (receiving r v) ≡ []) × Next (receiverAfter r (receiving r v))
+
+in-dx : (v : ℕ) (r : Receiver) → BeforeDx r → Dx r v
+in-dx v r s = go (eqb v alpha) (eqb v rq) refl refl r s
+  where
+    go : (a b : Bool) → eqb v alpha ≡ a → eqb v rq ≡ b → (r : Receiver) → BeforeDx r → Dx r v
+    go true b e f r (dx0 s) = rw e (refl, rx1 Phasing.One)
+    go true b e f r dx1 = rw e (refl, rx1 Phasing.One)
+    go true b e f r dx2 = rw e (refl, rx1 Phasing.One)
+    go true b e f r dx3 = rw e (refl, rx1 Phasing.One)
+    go false true e f r (dx0 s) = rw (e, f) (refl, rx1 Phasing.Two)
+    go false true e f r dx1 = rw (e, f) (refl, rx2)
+    go false true e f r dx2 = rw (e, f) (refl, rx3)
+    go false true e f r dx3 = rw (e, f) (refl, rx-locked)
+    go false false e f r (dx0 s) = rw (e, f) (refl, rx0 Phasing.One)
+    go false false e f r dx1 = rw (e, f) (refl, rx0 Phasing.One)
+    go false false e f r dx2 = rw (e, f) (refl, rx0 Phasing.One)
+    go false false e f r dx3 = rw (e, f) (refl, rx0 Phasing.One)
+
+in-rx : (v : ℕ) → eqb v rq ≡ false → Quiet false (settled rq v) → (r : Receiver) → BeforeRx r → Rx r v
+unfolding heardRx
+in-rx v n q r s = go (eqb v alpha) refl r s
+  where
+    go : (a : Bool) → eqb v alpha ≡ a → (r : Receiver) → BeforeRx r → Rx r v
+    go a e r rx-locked = rw (q .1) (q .0, locks)
+    go true e r (rx0 s) = rw e (refl, seeks dx1)
+    go true e r (rx1 Phasing.One) = rw e (refl, seeks dx1)
+    go true e r (rx1 Phasing.Two) = rw e (refl, seeks dx2)
+    go true e r rx2 = rw e (refl, seeks dx3)
+    go true e r rx3 = rw e (refl, locks)
+    go false e r (rx0 s) = rw (e, n) (refl, seeks (dx0 Phasing.One))
+    go false e r (rx1 s) = rw (e, n) (refl, seeks (dx0 Phasing.One))
+    go false e r rx2 = rw (e, n) (refl, seeks (dx0 Phasing.One))
+    go false e r rx3 = rw (e, n) (refl, seeks (dx0 Phasing.One))
+
+module _ (d : Damage) (good : (k : ℕ) → NoSignal (d k)) where
+  searching : (ps : List Position) (k : ℕ) (before last : Position) (r : Receiver) → Word before → Word last → Ordered ps → BeforeDx r → Printed d k ps (listen r (heardFrom d k (slotsFrom before last ps)))
+  unfolding listen heardFrom slotsFrom
+  searching [] k before last r s t o b = nothing
+  searching (p ∷ ps) k before last r s t o b =
+      let x = in-dx (hear (d k) (dxOf p)) r b in
+      let y = in-rx (hear (d (suc k)) (rxOf before)) (rx-not-rq before s (d (suc k)) (good (suc k))) (counted before s (d (suc k)) (good (suc k))) _ (x .1) in
+      rw (x .0, y .0) (behind (go _ (y .1) (λ r b. searching ps (twoOn k) last p r t (word p ps o) (rest p ps o) b)))
+    where
+      go : (r : Receiver) → Next r → ((r : Receiver) → BeforeDx r → Printed d (twoOn k) ps (listen r (heardFrom d (twoOn k) (slotsFrom last p ps)))) → Printed d (twoOn k) ps (listen r (heardFrom d (twoOn k) (slotsFrom last p ps)))
+      go r (seeks b) ih = ih r b
+      go r locks ih = both-counted d good ps (twoOn k) rq last p t (word p ps o) (rest p ps o)
+
+-- a broadcast is phasing and traffic, and then α
+sent-ordered : (ps : List Position) → AllSent ps → Ordered (ps ++ replicate 17 Position.idle)
+sent-ordered [] s = tt
+sent-ordered (Position.phasing ∷ ps) s = sent-ordered ps (s .1)
+sent-ordered (Position.signal w ∷ ps) s = (s .0, sent-ordered ps (s .1))
+sent-ordered (Position.idle ∷ ps) s = absurd (s .0)
+
+ordered : (text : List ℕ) → Text text → Ordered (positionsOf text)
+unfolding positionsOf trafficOf meaningOf
+ordered text t = sent-ordered (withBreaks 0 (carriageReturn ∷ lineFeed ∷ text)) (breaks-sent (carriageReturn ∷ lineFeed ∷ text) 0 (refl, (refl, t)))
+
+-- No wrong signal: under any damage that is never one of the 35 a fresh receiver prints nothing, or what is to be seen from a return
+-- or line feed on.
+pub no-wrong-signal : (text : List ℕ) (d : Damage) → Text text → ((k : ℕ) → NoSignal (d k)) → Printed d 0 (positionsOf text) (copyFrom 0 text d)
+unfolding slotsOf
+no-wrong-signal text d t n = searching d n (positionsOf text) 0 Position.idle Position.idle freshReceiver tt tt (ordered text t) (dx0 Phasing.One)
+
+-- So each signal printed is the one sent at a position, or an error mark, and the positions come in order, none twice.
+seen-in-order : (d : Damage) (ps : List Position) (k : ℕ) → InOrder ps (seenFrom d k ps)
+unfolding seenFrom
+seen-in-order d [] k = done
+seen-in-order d (p ∷ []) k = done
+seen-in-order d (p ∷ q ∷ []) k = done
+seen-in-order d (p ∷ q ∷ r ∷ ps) k = go (endsBehind d k q r) (lost d k q r) (seen-in-order d (q ∷ r ∷ ps) (twoOn k))
+  where
+    one-more : (p : Position) (b : Bool) (xs : List ℕ) → InOrder (q ∷ r ∷ ps) xs → InOrder (p ∷ q ∷ r ∷ ps) (seen p b ++ xs)
+    one-more p true xs i = marked i
+    one-more Position.phasing false xs i = passed i
+    one-more (Position.signal w) false xs i = sent i
+    one-more Position.idle false xs i = passed i
+
+    go : (e b : Bool) → InOrder (q ∷ r ∷ ps) (seenFrom d (twoOn k) (q ∷ r ∷ ps)) → InOrder (p ∷ q ∷ r ∷ ps) (seen p b ++ (if e then [] else seenFrom d (twoOn k) (q ∷ r ∷ ps)))
+    go true b i = one-more p b [] done
+    go false b i = one-more p b _ i
+
+printed-in-order : {d : Damage} {k : ℕ} {ps : List Position} {xs : List ℕ} → Printed d k ps xs → InOrder ps xs
+printed-in-order nothing = done
+printed-in-order {d} {k} (here {w = w} {q = q} {r = r} {ps = qs} b l) = seen-in-order d (Position.signal w ∷ q ∷ r ∷ qs) k
+printed-in-order (behind p) = passed (printed-in-order p)
+
+pub in-order : (text : List ℕ) (d : Damage) → Text text → ((k : ℕ) → NoSignal (d k)) → InOrder (positionsOf text) (copyFrom 0 text d)
+in-order text d t n = printed-in-order (no-wrong-signal text d t n)
+
+-- Once printing has begun a settled position is an error mark exactly where it is lost.
+pub marked-exactly : (p : Position) → Word p → (b : Bool) → (seen p b ≡ errorMark ∷ []) ↔ (b ≡ true)
+marked-exactly p s true = ((λ e. refl), (λ e. refl))
+marked-exactly p s false = ((λ e. absurd (other p s e)), (λ e. absurd (false≢true e)))
+  where
+    no-traffic : trafficOf errorMark ≡ false
+    no-traffic = unfold trafficOf meaningOf in refl
+
+    other : (p : Position) → Word p → seen p false ≡ errorMark ∷ [] → ⊥
+    other Position.phasing s e = let z : _≡_ {A = ℕ} 0 1 = cc in omega arith
+    other (Position.signal w) s e = let h : w ≡ errorMark = cc in false≢true (sym no-traffic ∙ ap trafficOf (sym h) ∙ s .is-traffic)
+    other Position.idle s e = let z : _≡_ {A = ℕ} 0 1 = cc in omega arith
+
+-- From a later slot on. What the receiver does not listen to is lost to it.
+pub no-wrong-signal-from : (start : ℕ) (text : List ℕ) (d : Damage) → Text text → ((k : ℕ) → NoSignal (d k)) → Printed (deafBefore start d) 0 (positionsOf text) (copyFrom start text d)
+no-wrong-signal-from start text d t n = rw (late-is-deaf start d (slotsOf text)) (no-wrong-signal text (deafBefore start d) t (deaf-no-signal start d n))

@@ -1,0 +1,115 @@
+-- One slot: what a receiver prints in it, and what it is after it. Assumes nothing.
+use mathlib.Core.Path.{_≡_, refl, sym, _∙_}
+use mathlib.Core.Bool.{Bool, true, false, _&&_, false≢true}
+use mathlib.Core.Logic.{_⊎_, inl, inr}
+use mathlib.Core.List.{List, [], _∷_, _++_}
+use Prim.Native.Nat.{ℕ}
+use native.Mathlib.Omega.{arith}
+use lib.Dec.{eqb}
+use borrow.Author.Tests.{eq-eqb, ne-eqb}
+use Rattle.signals.specs.Units.{intactOf, onesOf}
+use Rattle.signals.specs.Meaning.{trafficOf, meaningOf, alpha, rq}
+use Rattle.mode_b.specs.declared.Phasing.{Phasing}
+use Rattle.mode_b.specs.declared.Hearing.the-variants.{Searching, InPhase}
+use Rattle.mode_b.specs.declared.Receiver.{Receiver}
+use Rattle.mode_b.specs.Sender.{Position, dxOf}
+use Rattle.mode_b.specs.Receiver.{Settled, settled, settledAlone, printedOf, printingAfter, heardDx, heardRx, freshReceiver}
+use Rattle.copy.specs.Run.{Hurt, kept, hurt, hear, NoSignal, one, listen}
+use Rattle.copy.proofs.WordLaws.{Mutilated, mutilated, Traffic, eqb-self}
+
+abbrev pub inPhase : ℕ → ℕ → ℕ → Bool → Bool → Receiver
+inPhase a b c dx printing =
+    record { hearing = InPhase (record { first = a; second = b; third = c; dx = dx; printing = printing }) }
+
+abbrev pub seeking : ℕ → Phasing → Receiver
+seeking run s = record { hearing = Searching run s }
+
+module _ (a b c : ℕ) (printing : Bool) (w : ℕ) (ws : List ℕ) where
+  pub dx-waits : eqb w alpha && eqb c alpha ≡ false → listen (inPhase a b c true printing) (w ∷ ws) ≡ listen (inPhase b c w false printing) ws
+  unfolding listen heardDx
+  dx-waits e = rw e
+
+  pub dx-ends : eqb w alpha && eqb c alpha ≡ true → listen (inPhase a b c true printing) (w ∷ ws) ≡ one (printedOf printing (settledAlone b)) ++ listen freshReceiver ws
+  unfolding listen heardDx
+  dx-ends e = rw e
+
+  pub rx-settles : listen (inPhase a b c false printing) (w ∷ ws) ≡ one (printedOf printing (settled a w)) ++ listen (inPhase a b c true (printingAfter printing (settled a w))) ws
+  unfolding listen heardRx
+  rx-settles = refl
+
+-- a DX slot that does not end reception, and the RX slot behind it
+pub waits-settles : (a b c : ℕ) (printing : Bool) (v w : ℕ) (ws : List ℕ) → eqb v alpha && eqb c alpha ≡ false → listen (inPhase a b c true printing) (v ∷ w ∷ ws) ≡ one (printedOf printing (settled b w)) ++ listen (inPhase b c v true (printingAfter printing (settled b w))) ws
+waits-settles a b c printing v w ws e = dx-waits a b c printing v (w ∷ ws) e ∙ rx-settles b c v printing w ws
+
+-- a position of phasing or of traffic
+abbrev pub Sent : Position → Type 0
+Sent Position.phasing = Unit {0}
+Sent (Position.signal w) = Traffic w
+Sent Position.idle = ⊥
+
+-- its DX is never heard as α
+pub not-alpha : (p : Position) → Sent p → (h : Hurt) → NoSignal h → eqb (hear h (dxOf p)) alpha ≡ false
+not-alpha Position.phasing s kept n = refl
+not-alpha (Position.signal w) s kept n = s .not-alpha
+not-alpha Position.idle s kept n = absurd s
+not-alpha Position.phasing s (hurt v) n = mutilated v n .not-alpha
+not-alpha (Position.signal w) s (hurt v) n = mutilated v n .not-alpha
+not-alpha Position.idle s (hurt v) n = absurd s
+
+pub hurt-kept : (v : ℕ) → hurt v ≡ kept → ⊥
+hurt-kept v e = let z : _≡_ {A = ℕ} 0 1 = cc in omega arith
+
+-- what a position is settled to, by what happened to its copies
+pub settles-signal : (w : ℕ) → Traffic w → (a b : Hurt) → NoSignal a → NoSignal b → (a ≡ kept) ⊎ (b ≡ kept) → settled (hear a w) (hear b w) ≡ Settled.signal w
+unfolding settled
+settles-signal w t kept kept m n c = rw (t .is-intact, eqb-self w)
+settles-signal w t kept (hurt v) m n c = rw (t .is-intact, mutilated v n .not-intact, t .not-rq)
+settles-signal w t (hurt u) kept m n c = rw (mutilated u m .not-intact, t .is-intact, mutilated u m .not-rq)
+settles-signal w t (hurt u) (hurt v) m n (inl e) = absurd (hurt-kept u e)
+settles-signal w t (hurt u) (hurt v) m n (inr e) = absurd (hurt-kept v e)
+
+pub settles-error : (u v : ℕ) → Mutilated u → Mutilated v → settled u v ≡ Settled.error
+unfolding settled
+settles-error u v m n = rw (m .not-intact, n .not-intact, m .not-rq)
+
+-- what is settled so prints nothing, and printing does not begin
+abbrev pub Quiet : Bool → Settled → Type 0
+Quiet printing s = (one (printedOf printing s) ≡ []) × (printingAfter printing s ≡ printing)
+
+quiet-rq : (printing : Bool) → Quiet printing (Settled.signal rq)
+unfolding trafficOf meaningOf
+quiet-rq true = (refl, refl)
+quiet-rq false = (refl, refl)
+
+quiet-alpha : (printing : Bool) → Quiet printing (Settled.signal alpha)
+unfolding trafficOf meaningOf
+quiet-alpha true = (refl, refl)
+quiet-alpha false = (refl, refl)
+
+-- a phasing position with an intact copy, and an α position
+pub settles-phasing : (printing : Bool) (a b : Hurt) → NoSignal a → NoSignal b → (a ≡ kept) ⊎ (b ≡ kept) → Quiet printing (settled (hear a rq) (hear b alpha))
+unfolding settled intactOf onesOf
+settles-phasing printing kept kept m n c = (refl, refl)
+settles-phasing printing kept (hurt v) m n c = rw (mutilated v n .not-alpha, mutilated v n .not-intact) (quiet-rq printing)
+settles-phasing printing (hurt u) kept m n c = rw (mutilated u m .not-intact, mutilated u m .not-rq) (quiet-alpha printing)
+settles-phasing printing (hurt u) (hurt v) m n (inl e) = absurd (hurt-kept u e)
+settles-phasing printing (hurt u) (hurt v) m n (inr e) = absurd (hurt-kept v e)
+
+pub settles-idle : (printing : Bool) (a b : Hurt) → NoSignal a → NoSignal b → (a ≡ kept) ⊎ (b ≡ kept) → Quiet printing (settled (hear a alpha) (hear b alpha))
+unfolding settled intactOf onesOf
+settles-idle printing kept kept m n c = quiet-alpha printing
+settles-idle printing kept (hurt v) m n c = rw (mutilated v n .not-intact) (quiet-alpha printing)
+settles-idle printing (hurt u) kept m n c = rw (mutilated u m .not-intact, mutilated u m .not-rq) (quiet-alpha printing)
+settles-idle printing (hurt u) (hurt v) m n (inl e) = absurd (hurt-kept u e)
+settles-idle printing (hurt u) (hurt v) m n (inr e) = absurd (hurt-kept v e)
+
+-- before printing has begun an error prints nothing either
+pub settles-unbegun : (a b : Hurt) → NoSignal a → NoSignal b → Quiet false (settled (hear a rq) (hear b alpha))
+settles-unbegun kept b m n = settles-phasing false kept b m n (inl refl)
+settles-unbegun (hurt u) kept m n = settles-phasing false (hurt u) kept m n (inr refl)
+settles-unbegun (hurt u) (hurt v) m n = rw (settles-error u v (mutilated u m) (mutilated v n)) (refl, refl)
+
+-- A word taken for RQ when the receiver came into phase: before printing has begun its position prints nothing, whatever it is.
+pub settles-counted : (w : ℕ) → Traffic w → Quiet false (settled rq w)
+unfolding settled intactOf onesOf
+settles-counted w t = rw (t .is-intact, ne-eqb rq w (λ e. false≢true (sym (t .not-rq) ∙ eq-eqb w rq (sym e))), t .not-alpha) (refl, refl)

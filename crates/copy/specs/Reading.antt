@@ -1,0 +1,76 @@
+-- 01, Mode B: what a reader sees, read off the positions sent and the damage.  R-111 to R-124
+--
+-- In words:
+--     lost phasing   Nothing is printed until four phasing signals in a row are heard, at the start or in a break, and behind them a
+--                    return or a line feed. What comes before is missing without a mark.
+--     break          A phasing position prints nothing; but one with both copies damaged is an error mark, as any position is.
+--     damaged end    Reception ends at the first two successive α positions with an intact DX. The position right before them is an
+--                    error mark where its DX is damaged, though its RX is still to come: the last traffic position, or an α
+--                    position where the end comes later. Any α position before that one is an error mark where both copies are
+--                    damaged. Without such two, error marks go on to the last slot.
+-- Assumes nothing.
+use mathlib.Core.Path.{_≡_}
+use mathlib.Core.Bool.{Bool, true, false, _&&_}
+use mathlib.Core.List.{List, [], _∷_, _++_}
+use Prim.Native.Nat.{ℕ, suc}
+use Rattle.laws.specs.Choice.{if_then_else_}
+use Rattle.mode_b.specs.Sender.{Position, phasing, signal, idle}
+use Rattle.mode_b.specs.Receiver.{begins, errorMark}
+use Rattle.copy.specs.Run.{Hurt, kept, hurt, Damage}
+
+-- A position is known by its DX slot, 2t: its RX slot is five on, and the DX slot of the next position two on.
+abbrev pub twoOn : ℕ → ℕ
+twoOn k = suc (suc k)
+
+abbrev pub fiveOn : ℕ → ℕ
+fiveOn k = suc (suc (suc (suc (suc k))))
+
+abbrev pub damaged : Hurt → Bool
+damaged kept = false
+damaged (hurt v) = true
+
+-- "Two successive intact α in DX end reception at once": the two positions behind the one in slot k are α, and their DX is intact
+abbrev pub intactα : Position → Hurt → Bool
+intactα phasing h = false
+intactα (signal w) h = false
+intactα idle kept = true
+intactα idle (hurt v) = false
+
+abbrev pub endsBehind : Damage → ℕ → Position → Position → Bool
+endsBehind d k q r = intactα q (d (twoOn k)) && intactα r (d (twoOn (twoOn k)))
+
+-- A position is lost where both copies are damaged, or where it is settled by its DX alone and that is damaged.
+abbrev pub lost : Damage → ℕ → Position → Position → Bool
+lost d k q r = if endsBehind d k q r then damaged (d k) else damaged (d k) && damaged (d (fiveOn k))
+
+-- once printing has begun: a lost position is an error mark, another prints its traffic signal, if it has one
+abbrev pub trafficIn : Position → List ℕ
+trafficIn phasing = []
+trafficIn (signal w) = w ∷ []
+trafficIn idle = []
+
+abbrev pub seen : Position → Bool → List ℕ
+seen p true = errorMark ∷ []
+seen p false = trafficIn p
+
+-- The positions from slot k on, once printing has begun. The RX of the last two is not sent, and they are not settled. Behind the end
+-- nothing more is printed.
+unfoldable pub seenFrom : Damage → ℕ → List Position → List ℕ
+seenFrom d k [] = []
+seenFrom d k (p ∷ []) = []
+seenFrom d k (p ∷ q ∷ []) = []
+seenFrom d k (p ∷ q ∷ r ∷ ps) =
+    seen p (lost d k q r) ++ (if endsBehind d k q r then [] else seenFrom d (twoOn k) (q ∷ r ∷ ps))
+
+-- What is printed of the positions from slot k on: nothing, or what is seen from a return or line feed on that is not lost.
+pub data Printed (d : Damage) : ℕ → List Position → List ℕ → Type 0 where
+  nothing : {k : ℕ} {ps : List Position} → Printed d k ps []
+  here : {k w : ℕ} {q r : Position} {ps : List Position} → begins w ≡ true → lost d k q r ≡ false → Printed d k (signal w ∷ q ∷ r ∷ ps) (seenFrom d k (signal w ∷ q ∷ r ∷ ps))
+  behind : {k : ℕ} {p : Position} {ps : List Position} {xs : List ℕ} → Printed d (twoOn k) ps xs → Printed d k (p ∷ ps) xs
+
+-- each signal printed is of a position, the one sent there or an error mark; the positions come in order, and none twice
+pub data InOrder : List Position → List ℕ → Type 0 where
+  done : {ps : List Position} → InOrder ps []
+  passed : {p : Position} {ps : List Position} {xs : List ℕ} → InOrder ps xs → InOrder (p ∷ ps) xs
+  sent : {w : ℕ} {ps : List Position} {xs : List ℕ} → InOrder ps xs → InOrder (signal w ∷ ps) (w ∷ xs)
+  marked : {p : Position} {ps : List Position} {xs : List ℕ} → InOrder ps xs → InOrder (p ∷ ps) (errorMark ∷ xs)
