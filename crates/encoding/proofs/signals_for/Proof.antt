@@ -11,35 +11,27 @@ use Rattle.encoding.proofs.signals_for.Reads as reads
 use Rattle.encoding.proofs.signals_for.Lts as lts
 use Rattle.encoding.proofs.shifts.Reads as shifts-reads
 
--- src/lib.rt:329:31
 enum-told : tie.Need-enum-told
 enum-told c = search needs
 
--- src/lib.rt:330:33
 enum-told-2 : tie.Need-enum-told-2
 enum-told-2 c = search needs
 
--- src/lib.rt:331:28
 enum-known-character : tie.Need-enum-known-character
 enum-known-character c = search needs
 
--- src/lib.rt:331:42
 shifts-requires : tie.Need-shifts-requires
 shifts-requires c κs = search needs
 
--- src/lib.rt:331:42
 add-result : tie.Need-add-result
 add-result c = omega (arith, c .shifts .ensures, shift-le (c .before .before .before .before .args .case) (c .before .before .character .given .0 .0))
 
--- src/lib.rt:325:1
 returns : tie.Need-returns
 returns c = search needs
 
--- src/lib.rt:325:1
 returns-2 : tie.Need-returns-2
 returns-2 c = search needs
 
--- src/lib.rt:325:1
 returns-3 : tie.Need-returns-3
 returns-3 c =
     rw (c .before .before .character .given .1)

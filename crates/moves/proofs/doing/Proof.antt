@@ -39,11 +39,9 @@ asked-requires-2 c κs = search needs
 enum-told-3 : tie.Need-enum-told-3
 enum-told-3 c = search needs
 
--- /work/main/target/rlib/mode_a.rlib/interface/lang/src/lib.rt:11:25
 enum-told-4 : tie.Need-enum-told-4
 enum-told-4 c = search needs
 
--- /work/main/target/rlib/mode_a.rlib/interface/lang/src/lib.rt:13:26
 enum-told-5 : tie.Need-enum-told-5
 enum-told-5 c = search needs
 
@@ -56,7 +54,6 @@ other-requires c κs = search needs
 enum-told-7 : tie.Need-enum-told-7
 enum-told-7 c = search needs
 
--- /work/main/target/rlib/mode_a.rlib/interface/lang/src/lib.rt:11:25
 enum-told-8 : tie.Need-enum-told-8
 enum-told-8 c = search needs
 
@@ -132,7 +129,6 @@ enum-told-20 c = search needs
 enum-told-21 : tie.Need-enum-told-21
 enum-told-21 c = search needs
 
--- /work/main/target/rlib/mode_a.rlib/interface/lang/src/lib.rt:10:29
 enum-told-22 : tie.Need-enum-told-22
 enum-told-22 c = search needs
 
