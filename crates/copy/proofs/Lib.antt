@@ -6,7 +6,7 @@
 --     SearchLaws        four phasing signals kept before the text bring the receiver into phase
 --     CopyLaws          the perfect copy
 --     Needs             each clause of its premise is needed
---     ReadingLaws       no wrong signal, under any damage
+--     ReadingLaws       no wrong signal, under any damage that is never one of the 35
 --     ReadingExamples   what a reader sees at a lost phasing, a break and a damaged end
 pub mod WordLaws
 pub mod HearLaws

@@ -1,4 +1,4 @@
--- 01, Mode B: what a reader sees, read off the positions sent and the damage.  R-111 to R-124
+-- 01, Mode B: what a reader may see, read off the positions sent and the damage that is never one of the 35.  R-111 to R-124
 --
 -- In words:
 --     lost phasing   Nothing is printed until four phasing signals in a row are heard, at the start or in a break, and behind them a
@@ -7,7 +7,8 @@
 --     damaged end    Reception ends at the first two successive α positions with an intact DX. The position right before them is an
 --                    error mark where its DX is damaged, though its RX is still to come: the last traffic position, or an α
 --                    position where the end comes later. Any α position before that one is an error mark where both copies are
---                    damaged. Without such two, error marks go on to the last slot.
+--                    damaged. Without such two, positions are settled to the last slot, and each of them
+--                    that is lost is an error mark.
 -- Assumes nothing.
 use mathlib.Core.Path.{_≡_}
 use mathlib.Core.Bool.{Bool, true, false, _&&_}
@@ -63,6 +64,7 @@ seenFrom d k (p ∷ q ∷ r ∷ ps) =
     seen p (lost d k q r) ++ (if endsBehind d k q r then [] else seenFrom d (twoOn k) (q ∷ r ∷ ps))
 
 -- What is printed of the positions from slot k on: nothing, or what is seen from a return or line feed on that is not lost.
+-- From which one is not said here: that depends on where the receiver comes into phase (R-112).
 pub data Printed (d : Damage) : ℕ → List Position → List ℕ → Type 0 where
   nothing : {k : ℕ} {ps : List Position} → Printed d k ps []
   here : {k w : ℕ} {q r : Position} {ps : List Position} → begins w ≡ true → lost d k q r ≡ false → Printed d k (signal w ∷ q ∷ r ∷ ps) (seenFrom d k (signal w ∷ q ∷ r ∷ ps))

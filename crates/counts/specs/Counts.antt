@@ -1,4 +1,4 @@
--- 01, The station: "The 32nd makes it Lost and silent, with no offer taken. Then, and after every other step, the count is 0."
+-- 01, The station: "The 32nd makes it Lost and silent, with no offer taken. Then, and after every other step, the count is 0. Ending has its four instead."
 -- R-096, R-097, R-098, R-099, R-100, as one statement about every run from a fresh station.
 -- Assumes nothing.
 use mathlib.Core.Path.{_≡_}

@@ -31,7 +31,7 @@ unfoldable pub after : Station → List Event → Station
 after s [] = s
 after s (e ∷ es) = stationAfter (after s es) (stepping (after s es) (e .burst) (e .offer))
 
--- "at Sending, Turning, Opening, Receiving or Asking"
+-- "at Sending, Turning, Opening, Receiving or Asking"; "Ending has its four instead."  R-100
 abbrev pub counting : Place → Bool
 counting (Sending h) = true
 counting (Turning n) = true

@@ -1,7 +1,8 @@
--- What the rows ask of a burst: its first word, and what its three words are together. Any byte may be heard.
+-- 01, The station: what the rows ask of a burst: its first word, and what its three words are together. Any byte may be heard.
 --
 -- Whether a word is a control signal or traffic is told by the place that hears it (R-022): Sending, Opening and Ending read
--- the first word only and ask what it is as a control signal, whatever follows it; Receiving asks for a block.
+-- the first word only and ask what it is as a control signal, whatever follows it; Turning asks for CS3 or
+-- RQ first, or three RQ; Receiving for a block or ααα; Asking for βαβ.
 -- Assumes nothing.
 use mathlib.Core.Bool.{Bool, _&&_, _||_}
 use Prim.Native.Nat.{ℕ}
@@ -28,7 +29,7 @@ firstOf w =
 unfoldable pub mayHold : ℕ → Bool
 mayHold w = trafficOf w || eqb w beta
 
--- "Three intact words, each traffic or β". A traffic signal and β are intact words.
+-- "Three intact words, each traffic or β"  R-073. A traffic signal and β are intact words.
 unfoldable pub isBlock : Words → Bool
 isBlock b = mayHold (b .0) && (mayHold (b .1) && mayHold (b .2))
 

@@ -1,7 +1,8 @@
 -- 01, The station: "The step has one row for each place and one column for each kind of burst."  R-047 to R-085
 --
 -- A row a place, in 01's order, with 01's words and 001's sections. `Repeats`: it stays and sends these; `Goes`: it goes to the
--- place and sends these; `Takes`: it takes the offer under the number. What a `Takes`, an `Accepts` and the count then do is
+-- place and sends these; `Takes`: it takes the offer under the number; `Receives` and `Opens`: it goes to Receiving or
+-- Opening, which cancels a + heard. What a `Takes`, an `Accepts` and the count then do is
 -- Step.antt.
 -- Assumes nothing.
 use mathlib.Core.Bool.{Bool, true, false}
@@ -75,7 +76,7 @@ opening r Else = Repeats (requests r)
 
 -- Ending "(reads the first word)"                                                                         R-069
 --     other      "The other number's control signal: Stand-by, silent."                 3.7.14.3          R-070
---     all else   "All else: ααα again; if it has been sent four times, Stand-by,        3.7.14.1          R-071, R-072
+--     all else   "All else: ααα again; if it has been sent four times, Stand-by,        3.7.14.1          R-071, R-072, R-100
 --                silent."
 abbrev pub endsAgain : Ended → Doing
 endsAgain e =

@@ -83,7 +83,8 @@ acceptsBy s n b false l =
 abbrev pub accepts : Station → Number → Words → Offer → Reply
 accepts s n b o = acceptsBy s n b (isOver o) (listenedAll (s .case) (s .plus) b)
 
--- "Repetition count: steps in a row .. The 32nd makes it Lost and silent, with no offer taken."  R-096, R-097, R-098, R-099
+-- "Repetition count: steps in a row, at Sending, Turning, Opening, Receiving or Asking, in which the station neither changes place,
+-- nor confirms, nor accepts. The 32nd makes it Lost and silent, with no offer taken."  R-096, R-097, R-098, R-099
 abbrev pub repeats : Station → Words → Reply
 repeats s w =
     if leb 31 (s .count) then sends (movedTo s Lost) silence
@@ -97,7 +98,7 @@ done s b o (Receives n) = sends (cancelledTo s (Receiving n)) (asksFor n)
 done s b o Opens = sends (cancelledTo s Opening) (requests (s .role))
 done s b o (Accepts n) = accepts s n b o
 
--- 01, Numbers returned, for the step. "mode A step 4, 3"
+-- 01, Numbers returned, for the step. "mode A step 4, 3"  R-134, R-135
 --     4   "station with count over 31, an Ending total not 1 to 4, or a held word neither traffic nor β"      "0"                     R-129
 --     3   "a word that may not stand there: text offer (traffic, β)"                                         "index of the first"    R-128
 -- Both are judged at every place.
@@ -126,13 +127,14 @@ stepping s b o =
     else if ltb (firstNot mayHold (offered o)) (length (offered o)) then refused 3 (firstNot mayHold (offered o))
     else answered (done s b o (rowOf (s .role) (s .place) (heardOf b)))
 
--- each case of the answer, by 01's number and the value beside it
+-- each case of the answer, by 01's number and the value beside it  R-167
 abbrev pub saidStepped : Stepped → Answer Reply
 saidStepped (Stepped.Done r) = answered r
 saidStepped (Stepped.BadStation s) = refused 4 0
 saidStepped (Stepped.BadWord i s) = refused 3 i
 
--- the station that the answer hands back: "A refusal .. hands back the same station."  R-138
+-- the station that the answer hands back: "A refusal prints and sends nothing .. and hands back the same station."  R-136, R-138: a
+-- refusal has no burst and no printed signals
 abbrev pub handedBack : Stepped → Station
 handedBack (Stepped.Done r) = r .station
 handedBack (Stepped.BadStation s) = s

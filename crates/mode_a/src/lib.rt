@@ -95,7 +95,7 @@ pub struct Ended {
 //   Sending    -> Turning      CS3 first.      Sending, Opening -> Ending   where the offer taken is end
 //   Turning    -> Receiving    RQ RQ RQ (master), RQ first (slave).        Asking -> Opening   βαβ
 //   Receiving  -> Asking       over heard in the block, or offered;  -> Stand-by at ααα
-//   Ending     -> Stand-by     the other number's signal, or ααα sent four times.    Others -> Lost   the 32nd repetition
+//   Ending     -> Stand-by     the other number's signal, or ααα sent four times.    All but Ending and Stand-by -> Lost   the 32nd repetition
 pub enum Place {
     Sending(Held),
     // the number of the last block
@@ -137,7 +137,7 @@ pub struct Listening {
 
 // What a row says is done.
 pub enum Doing {
-    // stay, and send these again: a repetition
+    // stay, and send these: a repetition
     Repeats(Words),
     // go to the place, and send these
     Goes(Place, Words),

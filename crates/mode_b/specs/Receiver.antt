@@ -20,7 +20,7 @@ use Rattle.mode_b.specs.Sender.{carriageReturn, lineFeed}
 abbrev pub freshReceiver : Receiver
 freshReceiver = record { hearing = Searching 0 Phasing.One }
 
--- "answers the receiver and at most one printed signal, 255 for an error"  R-111: 0 for none
+-- "A receiver step hears one word and answers the receiver and at most one printed signal, 255 for an error."  R-111. 0 stands for none.
 abbrev pub hears : Hearing → Heard
 hears h = record { receiver = record { hearing = h }; printed = 0 }
 
@@ -41,7 +41,7 @@ sameSignal Phasing.Two Phasing.Two = true
 abbrev pub runOf : ℕ → Phasing → Phasing → ℕ
 runOf k last now = if eqb k 0 || sameSignal last now then 1 else k + 1
 
--- "Positions whose DX came before those four signals count as phasing."  R-114: at the fourth signal all three waiting DX are RQ.
+-- "Positions whose DX came before those four signals count as phasing."  R-114: at the fourth signal the three DX kept are RQ (after α the first of them is settled already).
 -- After RQ an RX slot comes next, after α a DX slot. That step settles and prints nothing.
 abbrev pub isOne : Phasing → Bool
 isOne Phasing.One = true
@@ -112,7 +112,7 @@ heardDx p w =
     printsAt (Searching 0 Phasing.One) (printedOf (p .printing) (settledAlone (p .second)))
     else hears (InPhase (record { first = p .second; second = p .third; third = w; dx = false; printing = p .printing }))
 
--- 01, Numbers returned, for the receiver: 4, "receiver with a search run over 3", "0"  R-130
+-- 01, Numbers returned, for the receiver: 4, "receiver with a search run over 3", "0"  R-130, R-134
 abbrev pub receivingBy : Hearing → ℕ → Answer Heard
 receivingBy (Searching k last) w = if ltb 3 k then refused 4 0 else answered (searched k last w)
 receivingBy (InPhase p) w = answered (if p .dx then heardDx p w else heardRx p w)
@@ -120,7 +120,8 @@ receivingBy (InPhase p) w = answered (if p .dx then heardDx p w else heardRx p w
 abbrev pub receiving : Receiver → ℕ → Answer Heard
 receiving r w = receivingBy (r .hearing) w
 
--- each case of the answer, by 01's number and the value beside it; and the receiver handed back
+-- each case of the answer, by 01's number and the value beside it; and the receiver handed back: "A refusal prints and
+-- sends nothing .. and hands back the same station."  R-136, R-138, R-167
 abbrev pub saidReceived : Received → Answer Heard
 saidReceived (Received.Done h) = answered h
 saidReceived (Received.BadReceiver r) = refused 4 0
@@ -133,6 +134,6 @@ abbrev pub receiverAfter : Receiver → Answer Heard → Receiver
 receiverAfter r (answered h) = h .receiver
 receiverAfter r (refused n v) = r
 
--- The promise of `receive`.
+-- The promise of `receive`.  R-168
 abbrev pub Receives : Receiver → ℕ → Received → Type 0
 Receives r w a = (saidReceived a ≡ receiving r w) × (handedBack a ≡ receiverAfter r (receiving r w))

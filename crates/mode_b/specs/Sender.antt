@@ -10,7 +10,8 @@ use Rattle.signals.specs.Meaning.{wordNo, trafficOf, alpha, rq}
 use Rattle.signals.specs.Numbers.{Answer, answered, refused, firstNot}
 use Rattle.mode_b.specs.declared.Slot.{Slot}
 
--- Positions are numbered from 0, by their place in a list.  R-101. A position, by what is sent there: a phasing pair, a traffic signal, or α
+-- "Positions are numbered from 0."  R-101: by their place in a list. A position, by what is sent there: a phasing pair, a traffic
+-- signal, or α
 pub data Position : Type 0 where
   phasing : Position
   signal : (word : ℕ) → Position
@@ -47,8 +48,8 @@ positionsOf text =
 
 -- "Position t goes out first (DX) in slot 2t and again (RX) in slot 2t+5, after four other signals. .. Before position 0, RX
 -- slots carry α. .. The last slot is number 2t+1, where t is the last position; RX copies due later are not sent."  R-102, R-104,
--- R-109, R-110: slot 2t+1 is 2(t-2)+5, so behind each position's DX comes the RX of the position two before it. `before` and
--- `last` are those two; α stands for the RX of what is before position 0.
+-- R-109, R-110: slot 2t+1 is 2(t-2)+5, so behind each position's DX comes the RX of the position two before it. `before` is
+-- that position and `last` the one between; α stands for the RX of what is before position 0.
 unfoldable pub slotsFrom : Position → Position → List Position → List ℕ
 slotsFrom before last [] = []
 slotsFrom before last (p ∷ ps) = dxOf p ∷ rxOf before ∷ slotsFrom last p ps
@@ -56,7 +57,7 @@ slotsFrom before last (p ∷ ps) = dxOf p ∷ rxOf before ∷ slotsFrom last p p
 unfoldable pub slotsOf : List ℕ → List ℕ
 slotsOf text = slotsFrom idle idle (positionsOf text)
 
--- 01, Numbers returned, for the sender's call. "mode B slot 7, 3, 6"
+-- 01, Numbers returned, for the sender's call. "mode B slot 7, 3, 6"  R-134, R-135
 --     7   "over 8,192 signals for mode B or printing"                        "8,192"                 R-133
 --     3   "a word that may not stand there: .. text for mode B (traffic)"    "index of the first"    R-128
 --     6   "mode B: slot past the last"                                       "number of slots"       R-132
@@ -67,13 +68,13 @@ slotting text number =
     else if ltb number (length (slotsOf text)) then answered (getD (slotsOf text) number 0)
     else refused 6 (length (slotsOf text))
 
--- each case of the answer, by 01's number and the value beside it
+-- each case of the answer, by 01's number and the value beside it  R-167
 abbrev pub saidSlot : Slot → Answer ℕ
 saidSlot (Slot.Word w) = answered w
 saidSlot Slot.TooLong = refused 7 8192
 saidSlot (Slot.BadWord i) = refused 3 i
 saidSlot (Slot.PastLast n) = refused 6 n
 
--- The promise of `slot`.
+-- The promise of `slot`.  R-168
 abbrev pub Slots : List ℕ → ℕ → Slot → Type 0
 Slots text number r = saidSlot r ≡ slotting text number

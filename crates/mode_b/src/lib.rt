@@ -53,6 +53,7 @@ pub struct Heard {
     pub printed: u8,
 }
 
+// What a receiver's call answers: the step done, or a refusal with the same receiver.
 pub enum Received {
     Done(Heard),
     // 4: a search run over 3

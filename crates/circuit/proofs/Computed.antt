@@ -1,0 +1,149 @@
+-- How antt computes a run: each circuit is worked out before the next step, so that no step is computed twice.
+--     computed   the circuit after a list of events is what `through` computes
+-- Assumes nothing.
+use mathlib.Core.Path.{_≡_, refl, sym, _∙_}
+use mathlib.Core.Bool.{Bool, true, false}
+use mathlib.Core.List.{List, [], _∷_}
+use Prim.Native.Nat.{ℕ, zero, suc}
+use Rattle.signals.specs.declared.Case.{Case}
+use Rattle.signals.specs.declared.Case.the-variants.{Letters, Figures}
+use Rattle.mode_a.specs.declared.Role.{Role}
+use Rattle.mode_a.specs.declared.Role.the-variants.{Master, Slave}
+use Rattle.mode_a.specs.declared.Number.{Number}
+use Rattle.mode_a.specs.declared.Number.the-variants.{One, Two}
+use Rattle.mode_a.specs.declared.Words.{Words}
+use Rattle.mode_a.specs.declared.Place.{Place}
+use Rattle.mode_a.specs.declared.Place.the-variants.{Sending, Turning, Opening, Ending, Receiving, Asking, StandBy, Lost}
+use Rattle.mode_a.specs.declared.Station.{Station}
+use Rattle.mode_a.specs.Station.{words}
+use Rattle.circuit.specs.Circuit.{Event, Run, _▷_, Direction, Circuit, next, after}
+
+-- a value worked out, and handed on
+abbrev number : ℕ → (ℕ → Circuit) → Circuit
+number zero k = k zero
+number (suc n) k = k (suc n)
+
+number-is : (n : ℕ) (k : ℕ → Circuit) → number n k ≡ k n
+number-is zero k = refl
+number-is (suc n) k = refl
+
+abbrev block : Words → (Words → Circuit) → Circuit
+block w k = number (w .0) (λ x. number (w .1) (λ y. number (w .2) (λ z. k (words x y z))))
+
+block-is : (w : Words) (k : Words → Circuit) → block w k ≡ k w
+block-is w k =
+    number-is (w .0) (λ x. number (w .1) (λ y. number (w .2) (λ z. k (words x y z)))) ∙ number-is (w .1) (λ y. number (w .2) (λ z. k (words (w .0) y z))) ∙ number-is (w .2) (λ z. k (words (w .0) (w .1) z))
+
+abbrev blocks : List Words → (List Words → Circuit) → Circuit
+blocks [] k = k []
+blocks (b ∷ bs) k = block b (λ a. blocks bs (λ l. k (a ∷ l)))
+
+blocks-is : (l : List Words) (k : List Words → Circuit) → blocks l k ≡ k l
+blocks-is [] k = refl
+blocks-is (b ∷ bs) k = block-is b (λ a. blocks bs (λ l. k (a ∷ l))) ∙ blocks-is bs (λ l. k (b ∷ l))
+
+abbrev numbers : List ℕ → (List ℕ → Circuit) → Circuit
+numbers [] k = k []
+numbers (b ∷ bs) k = number b (λ a. numbers bs (λ l. k (a ∷ l)))
+
+numbers-is : (l : List ℕ) (k : List ℕ → Circuit) → numbers l k ≡ k l
+numbers-is [] k = refl
+numbers-is (b ∷ bs) k = number-is b (λ a. numbers bs (λ l. k (a ∷ l))) ∙ numbers-is bs (λ l. k (b ∷ l))
+
+abbrev named : Number → (Number → Circuit) → Circuit
+named One k = k One
+named Two k = k Two
+
+named-is : (n : Number) (k : Number → Circuit) → named n k ≡ k n
+named-is One k = refl
+named-is Two k = refl
+
+abbrev place : Place → (Place → Circuit) → Circuit
+place (Sending h) k = named (h .number) (λ n. block (h .block) (λ b. k (Sending (record { number = n; block = b }))))
+place (Turning n) k = named n (λ n. k (Turning n))
+place Opening k = k Opening
+place (Ending e) k = named (e .number) (λ n. number (e .total) (λ i. k (Ending (record { number = n; total = i }))))
+place (Receiving n) k = named n (λ n. k (Receiving n))
+place Asking k = k Asking
+place StandBy k = k StandBy
+place Lost k = k Lost
+
+place-is : (p : Place) (k : Place → Circuit) → place p k ≡ k p
+place-is (Sending h) k = named-is (h .number) (λ n. block (h .block) (λ b. k (Sending (record { number = n; block = b })))) ∙ block-is (h .block) (λ b. k (Sending (record { number = h .number; block = b })))
+place-is (Turning n) k = named-is n (λ n. k (Turning n))
+place-is Opening k = refl
+place-is (Ending e) k = named-is (e .number) (λ n. number (e .total) (λ i. k (Ending (record { number = n; total = i })))) ∙ number-is (e .total) (λ i. k (Ending (record { number = e .number; total = i })))
+place-is (Receiving n) k = named-is n (λ n. k (Receiving n))
+place-is Asking k = refl
+place-is StandBy k = refl
+place-is Lost k = refl
+
+abbrev role : Role → (Role → Circuit) → Circuit
+role Master k = k Master
+role Slave k = k Slave
+
+role-is : (r : Role) (k : Role → Circuit) → role r k ≡ k r
+role-is Master k = refl
+role-is Slave k = refl
+
+abbrev case-of : Case → (Case → Circuit) → Circuit
+case-of Letters k = k Letters
+case-of Figures k = k Figures
+
+case-is : (c : Case) (k : Case → Circuit) → case-of c k ≡ k c
+case-is Letters k = refl
+case-is Figures k = refl
+
+abbrev plus-of : Bool → (Bool → Circuit) → Circuit
+plus-of true k = k true
+plus-of false k = k false
+
+plus-is : (b : Bool) (k : Bool → Circuit) → plus-of b k ≡ k b
+plus-is true k = refl
+plus-is false k = refl
+
+abbrev station : Station → (Station → Circuit) → Circuit
+station s k = role (s .role) (λ r. place (s .place) (λ p. number (s .count) (λ n. case-of (s .case) (λ c. plus-of (s .plus) (λ m. k (record { role = r; place = p; count = n; case = c; plus = m }))))))
+
+station-is : (s : Station) (k : Station → Circuit) → station s k ≡ k s
+station-is s k =
+    role-is (s .role) (λ r. place (s .place) (λ p. number (s .count) (λ n. case-of (s .case) (λ c. plus-of (s .plus) (λ m. k (record { role = r; place = p; count = n; case = c; plus = m }))))))
+    ∙ place-is (s .place) (λ p. number (s .count) (λ n. case-of (s .case) (λ c. plus-of (s .plus) (λ m. k (record { role = s .role; place = p; count = n; case = c; plus = m })))))
+    ∙ number-is (s .count) (λ n. case-of (s .case) (λ c. plus-of (s .plus) (λ m. k (record { role = s .role; place = s .place; count = n; case = c; plus = m }))))
+    ∙ case-is (s .case) (λ c. plus-of (s .plus) (λ m. k (record { role = s .role; place = s .place; count = s .count; case = c; plus = m })))
+    ∙ plus-is (s .plus) (λ m. k (record { role = s .role; place = s .place; count = s .count; case = s .case; plus = m }))
+
+abbrev direction : Direction → (Direction → Circuit) → Circuit
+direction d k = blocks (d .taken) (λ t. blocks (d .accepted) (λ a. numbers (d .printed) (λ p. blocks (d .confirmed) (λ c. k (record { taken = t; accepted = a; printed = p; confirmed = c })))))
+
+direction-is : (d : Direction) (k : Direction → Circuit) → direction d k ≡ k d
+direction-is d k =
+    blocks-is (d .taken) (λ t. blocks (d .accepted) (λ a. numbers (d .printed) (λ p. blocks (d .confirmed) (λ c. k (record { taken = t; accepted = a; printed = p; confirmed = c })))))
+    ∙ blocks-is (d .accepted) (λ a. numbers (d .printed) (λ p. blocks (d .confirmed) (λ c. k (record { taken = d .taken; accepted = a; printed = p; confirmed = c }))))
+    ∙ numbers-is (d .printed) (λ p. blocks (d .confirmed) (λ c. k (record { taken = d .taken; accepted = d .accepted; printed = p; confirmed = c })))
+    ∙ blocks-is (d .confirmed) (λ c. k (record { taken = d .taken; accepted = d .accepted; printed = d .printed; confirmed = c }))
+
+abbrev settled : Circuit → (Circuit → Circuit) → Circuit
+settled c k = station (c .hearer) (λ x. station (c .sender) (λ p. block (c .burst) (λ w. direction (c .from-hearer) (λ d. direction (c .from-sender) (λ g. k (record { hearer = x; sender = p; burst = w; from-hearer = d; from-sender = g }))))))
+
+settled-is : (c : Circuit) (k : Circuit → Circuit) → settled c k ≡ k c
+settled-is c k =
+    station-is (c .hearer) (λ x. station (c .sender) (λ p. block (c .burst) (λ w. direction (c .from-hearer) (λ d. direction (c .from-sender) (λ g. k (record { hearer = x; sender = p; burst = w; from-hearer = d; from-sender = g }))))))
+    ∙ station-is (c .sender) (λ p. block (c .burst) (λ w. direction (c .from-hearer) (λ d. direction (c .from-sender) (λ g. k (record { hearer = c .hearer; sender = p; burst = w; from-hearer = d; from-sender = g })))))
+    ∙ block-is (c .burst) (λ w. direction (c .from-hearer) (λ d. direction (c .from-sender) (λ g. k (record { hearer = c .hearer; sender = c .sender; burst = w; from-hearer = d; from-sender = g }))))
+    ∙ direction-is (c .from-hearer) (λ d. direction (c .from-sender) (λ g. k (record { hearer = c .hearer; sender = c .sender; burst = c .burst; from-hearer = d; from-sender = g })))
+    ∙ direction-is (c .from-sender) (λ g. k (record { hearer = c .hearer; sender = c .sender; burst = c .burst; from-hearer = c .from-hearer; from-sender = g }))
+
+-- a list of events, after a run; by any step
+abbrev pub run-of : Run → List Event → Run
+run-of run [] = run
+run-of run (e ∷ es) = run-of (run ▷ e) es
+
+unfoldable pub through : (Circuit → Event → Circuit) → Circuit → List Event → Circuit
+through step c [] = c
+through step c (e ∷ es) = settled (step c e) (λ d. through step d es)
+
+pub computed : (run : Run) (es : List Event) → after (run-of run es) ≡ through next (after run) es
+unfolding after through
+computed run [] = refl
+computed run (e ∷ es) = computed (run ▷ e) es ∙ sym (settled-is (next (after run) e) (λ d. through next d es))

@@ -1,0 +1,21 @@
+-- Demand 3.
+--     DamageLaws   what a damaged burst can still be
+--     Link         what links the two stations, phase by phase
+--     StepLaws     a step leads from link to link
+--     RunLaws      so every circuit of a run is linked; what follows at once
+--     LiveLaws     undamaged exchanges
+--     SoundLaws    a station of a run is sound
+--     Theorem      demand 3
+--     Computed     how antt computes a run
+--     Runs         single runs: it says something
+--     Refuted      stronger sentences, and wrong readings of the rows
+pub mod DamageLaws
+pub mod Link
+pub mod StepLaws
+pub mod RunLaws
+pub mod LiveLaws
+pub mod SoundLaws
+pub mod Theorem
+pub mod Computed
+pub mod Runs
+pub mod Refuted

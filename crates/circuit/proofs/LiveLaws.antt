@@ -1,0 +1,359 @@
+-- Undamaged exchanges of linked stations: the block that is held gets its confirmation.
+--     goes-out     the burst of a station at Sending is heard: the other has then accepted the block, but for one case
+--     comes-back   the answer is heard: the block is confirmed if it was accepted, and sent if not
+-- So one exchange is enough but for that case, and after it the block is on the way, so that the next is.
+-- Assumes nothing.
+use mathlib.Core.Path.{_≡_, refl, ap, sym, subst, _∙_}
+use mathlib.Core.Bool.{Bool, true, false}
+use mathlib.Core.List.{List, [], _∷_, _++_, append-nil}
+use Prim.Native.Nat.{ℕ, _+_, _<_}
+use native.Mathlib.Omega.{arith}
+use lib.Dec.{leb}
+use lib.ListN.{length, length-append}
+use Rattle.laws.specs.Choice.{if_then_else_}
+use Rattle.signals.specs.Meaning.{meaningOf, trafficOf}
+use Rattle.signals.specs.Numbers.{Answer, answered, refused}
+use Rattle.mode_a.specs.declared.Number.{Number}
+use Rattle.mode_a.specs.declared.Number.the-variants.{One, Two}
+use Rattle.mode_a.specs.declared.Words.{Words}
+use Rattle.mode_a.specs.declared.Held.{Held}
+use Rattle.mode_a.specs.declared.Place.{Place}
+use Rattle.mode_a.specs.declared.Place.the-variants.{Sending, Turning, Opening, Ending, Receiving, Asking, StandBy, Lost}
+use Rattle.mode_a.specs.declared.Offer.{Offer}
+use Rattle.mode_a.specs.declared.Station.{Station}
+use Rattle.mode_a.specs.declared.Reply.{Reply}
+use Rattle.mode_a.specs.Station.{silence, RQ×3, other}
+use Rattle.mode_a.specs.Heard.{First, Cs, Cs3, firstOf, mayHold, isBlock, heardOf}
+use Rattle.mode_a.specs.Step.{movedTo, sends, repeats, done}
+use Rattle.circuit.specs.Circuit.{arrives, Event, heard, Harmless, Whole, Circuit, said, confirmedAt, confirmedBy, acceptedBy, answeredBy, goesOn, isAnswered, next}
+use Rattle.circuit.specs.Demand.{Beginning, Exchanged, InTime, Confirms, AwaitsAtRq}
+use Rattle.circuit.proofs.DamageLaws.{never}
+use Rattle.circuit.proofs.Link.{Owed, unheard, heard as accepted, held, Link, s1-block, s1-rqs, s1-own, s1-rqs′, s1-other, s2-rqs, s2-cs3, s3-any, s3-cs3, s4-rq, s4-rqs, s5-asks, s5-rq, e1-alphas, e1-any, e2-any, e2-any′, e3-silence, e3-any, e4-any, Told, At, here, gone, Says, aloud, no-more, Linked}
+use Rattle.circuit.proofs.StepLaws.{asks-first, same-self, same-other}
+use Rattle.circuit.proofs.RunLaws.{Answers, answers, still-at, place-here, not-lost, linked-next}
+
+-- undamaged, it is heard as it was sent; and that is harmless
+heard-whole : (e : Event) (w : Words) → Whole e → heard e w ≡ w
+heard-whole e w (p, q, r) = λ i. record { 0 = arrives (p i) (w .0); 1 = arrives (q i) (w .1); 2 = arrives (r i) (w .2) }
+
+pub whole-harmless : (e : Event) → Whole e → Harmless e
+whole-harmless e (p, q, r) = rw (p, q, r) (tt, tt, tt)
+
+-- an answered event is a step
+replied : (a : Answer Reply) → isAnswered a ≡ true → (r : Reply) × (a ≡ answered r)
+replied (answered r) e = (r, refl)
+replied (refused n v) e = never (sym e)
+
+-- Lost is for good
+lost-stays : (s : Station) (b : Words) (o : Offer) (r : Reply) → Answers s b o r → s .place ≡ Lost → r .station .place ≡ Lost
+unfolding done
+lost-stays s b o r a e = ap (λ (r : Reply). r .station .place) (a .is-done) ∙ rw e
+
+-- to repeat is to be Lost, or to stay and to say it
+repeated : (s : Station) (v : Words) (r : Reply) → r ≡ repeats s v → (r .station .place ≡ Lost → ⊥) →
+    (r .station .place ≡ s .place) × (r .sent ≡ v)
+repeated s v r e = rw e (go (leb 31 (s .count)))
+  where
+    by : Bool → Reply
+    by t = if t then sends (movedTo s Lost) silence else sends (record { role = s .role; place = s .place; count = s .count + 1; case = s .case; plus = s .plus }) v
+
+    go : (t : Bool) → (by t .station .place ≡ Lost → ⊥) → (by t .station .place ≡ s .place) × (by t .sent ≡ v)
+    go true n = absurd (n refl)
+    go false n = (refl, refl)
+
+-- what a station at Sending hears whole, and what is then owed
+data Hears (h : Held) : First → Owed → Type 0 where
+  own : isBlock (h .block) ≡ true → Hears h (Cs (h .number)) (unheard (h .block))
+  other-number : Hears h (Cs (other (h .number))) (accepted (h .block))
+  third : Hears h Cs3 (accepted (h .block))
+
+abbrev HearsAt : Place → First → Owed → Type 0
+HearsAt (Sending h) f o = Hears h f o
+HearsAt (Turning n) f o = Unit {0}
+HearsAt Opening f o = Unit {0}
+HearsAt (Ending e) f o = Unit {0}
+HearsAt (Receiving n) f o = Unit {0}
+HearsAt Asking f o = Unit {0}
+HearsAt StandBy f o = Unit {0}
+HearsAt Lost f o = Unit {0}
+
+hears-at : {x p : Place} {w : Words} {ox op : Owed} → Link x p w ox op → HearsAt x (firstOf (w .0)) ox
+unfolding firstOf
+hears-at (s1-block i) = tt
+hears-at (s1-rqs i) = tt
+hears-at (s1-own {n = n} {b = b} i) = subst (λ (f : First). Hears (held n b) f (unheard b)) (sym (asks-first n)) (own i)
+hears-at s1-rqs′ = tt
+hears-at (s1-other {n = n} {b = b}) = subst (λ (f : First). Hears (held n b) f (accepted b)) (sym (asks-first (other n))) other-number
+hears-at s2-rqs = tt
+hears-at s2-cs3 = third
+hears-at s3-any = tt
+hears-at s3-cs3 = tt
+hears-at (s4-rq r) = tt
+hears-at s4-rqs = tt
+hears-at s5-asks = tt
+hears-at (s5-rq r) = tt
+hears-at e1-alphas = tt
+hears-at e1-any = tt
+hears-at e2-any = tt
+hears-at e2-any′ = tt
+hears-at e3-silence = tt
+hears-at e3-any = tt
+hears-at e4-any = tt
+
+-- what a station at Sending has sent, and to whom
+data Sent (h : Held) : Place → Words → Owed → Type 0 where
+  block-sent : isBlock (h .block) ≡ true → Sent h (Receiving (h .number)) (h .block) (unheard (h .block))
+  rqs-sent : Sent h (Receiving (h .number)) RQ×3 (unheard (h .block))
+  sent-again : {x : Place} {w : Words} → (x ≡ Receiving (h .number) → ⊥) → Sent h x w (accepted (h .block))
+
+abbrev SentAt : Place → Place → Words → Owed → Type 0
+SentAt (Sending h) x w o = Sent h x w o
+SentAt (Turning n) x w o = Unit {0}
+SentAt Opening x w o = Unit {0}
+SentAt (Ending e) x w o = Unit {0}
+SentAt (Receiving n) x w o = Unit {0}
+SentAt Asking x w o = Unit {0}
+SentAt StandBy x w o = Unit {0}
+SentAt Lost x w o = Unit {0}
+
+other-awaited : (n : Number) → Receiving (other n) ≡ Receiving n → ⊥
+other-awaited One e = let z : _≡_ {A = ℕ} 0 1 = cc in omega arith
+other-awaited Two e = let z : _≡_ {A = ℕ} 0 1 = cc in omega arith
+
+asking-awaits : (n : Number) → Asking ≡ Receiving n → ⊥
+asking-awaits n e = let z : _≡_ {A = ℕ} 0 1 = cc in omega arith
+
+sent-at : {x p : Place} {w : Words} {ox op : Owed} → Link x p w ox op → SentAt p x w op
+sent-at (s1-block i) = block-sent i
+sent-at (s1-rqs i) = rqs-sent
+sent-at (s1-own i) = tt
+sent-at (s1-rqs′ {n = n}) = sent-again (other-awaited n)
+sent-at s1-other = tt
+sent-at (s2-rqs {n = n}) = sent-again (asking-awaits n)
+sent-at s2-cs3 = tt
+sent-at s3-any = tt
+sent-at s3-cs3 = tt
+sent-at (s4-rq r) = tt
+sent-at s4-rqs = tt
+sent-at s5-asks = tt
+sent-at (s5-rq r) = tt
+sent-at e1-alphas = tt
+sent-at e1-any = tt
+sent-at e2-any = tt
+sent-at e2-any′ = tt
+sent-at e3-silence = tt
+sent-at e3-any = tt
+sent-at e4-any = tt
+
+-- the burst of a station that is not Lost
+burst-is : {p : Place} {w : Words} (c : Circuit) → Says (c .sender) p (c .burst) w → (c .sender .place ≡ Lost → ⊥) → c .burst ≡ w
+burst-is c (aloud q i) n = i
+burst-is c (no-more q i) n = absurd (n q)
+
+-- The answer comes back to a station at Sending: the block is confirmed, or it was not accepted and is sent now.
+data Back (c : Circuit) (h : Held) (e : Event) (r : Reply) : Type 0 where
+  confirmed : confirmedBy (c .hearer) (heard e (c .burst)) ≡ h .block ∷ [] →
+      c .from-hearer .accepted ≡ c .from-hearer .confirmed ++ h .block ∷ [] → Back c h e r
+  block-now : r .station .place ≡ Sending h → r .sent ≡ h .block → isBlock (h .block) ≡ true →
+      confirmedBy (c .hearer) (heard e (c .burst)) ≡ [] → c .from-hearer .accepted ≡ c .from-hearer .confirmed ++ [] → Back c h e r
+
+module _
+    (c : Circuit) (l : Linked c) (h : Held) (e : Event) (r : Reply) (at : c .hearer .place ≡ Sending h)
+    (alive : c .sender .place ≡ Lost → ⊥) (whole : Whole e) (is : said c e ≡ answered r) (stays : r .station .place ≡ Lost → ⊥) where
+  first-word : firstOf (heard e (c .burst) .0) ≡ firstOf (l .would-say .0)
+  first-word = ap (λ (v : Words). firstOf (v .0)) (heard-whole e (c .burst) whole ∙ burst-is c (l .says) alive)
+
+  confirms-by : (f : First) → firstOf (heard e (c .burst) .0) ≡ f → confirmedBy (c .hearer) (heard e (c .burst)) ≡ confirmedAt h f
+  confirms-by f i = rw (at, i)
+
+  by : (f : First) (o : Owed) → Hears h f o → firstOf (l .would-say .0) ≡ f → Told o (c .from-hearer) → Back c h e r
+  unfolding done heardOf
+  by f o (own i) j u =
+      let y = answers (c .hearer) (heard e (c .burst)) (e .offer) r is in
+      let q : r ≡ repeats (c .hearer) (h .block) = y .is-done ∙ rw (at, first-word, j, same-self (h .number)) in
+      let z = repeated (c .hearer) (h .block) r q stays in
+      block-now (z .0 ∙ at) (z .1) i (confirms-by f (first-word ∙ j) ∙ rw (same-self (h .number))) (u .accepted-is)
+  by f o other-number j u = confirmed (confirms-by f (first-word ∙ j) ∙ rw (same-other (h .number))) (u .accepted-is)
+  by f o third j u = confirmed (confirms-by f (first-word ∙ j)) (u .accepted-is)
+
+  comes-back : Back c h e r
+  comes-back = by _ _ (subst (λ (q : Place). HearsAt q (firstOf (l .would-say .0)) (l .owed-hearer)) (place-here (c .hearer) (l .hears) at (not-lost h)) (hears-at (l .link))) refl (l .told-hearer)
+
+rqs-no-block : isBlock RQ×3 ≡ false
+unfolding isBlock mayHold trafficOf meaningOf
+rqs-no-block = refl
+
+not-rqs : (b : Words) → isBlock b ≡ true → b ≡ RQ×3 → ⊥
+not-rqs b i e = never (sym i ∙ ap isBlock e ∙ rqs-no-block)
+
+receiving-not-lost : (n : Number) → Receiving n ≡ Lost → ⊥
+receiving-not-lost n e = let z : _≡_ {A = ℕ} 0 1 = cc in omega arith
+
+-- The burst goes out from a station at Sending: then the other has accepted the block, unless it still awaits it and hears RQ RQ RQ.
+module _
+    (c : Circuit) (l : Linked c) (h : Held) (e : Event) (r : Reply) (at : c .sender .place ≡ Sending h) (whole : Whole e)
+    (is : said c e ≡ answered r) (stays : r .station .place ≡ Lost → ⊥)
+    (apart : c .hearer .place ≡ Receiving (h .number) → c .burst ≡ RQ×3 → ⊥) where
+  abbrev Ahead : Type 0
+  Ahead = length (c .from-sender .confirmed) < length (c .from-sender .accepted ++ acceptedBy (c .hearer) (heard e (c .burst)))
+
+  hearer-here : At (c .hearer) (l .hearer-at) → c .hearer .place ≡ l .hearer-at
+  hearer-here (here q) = q
+  hearer-here (gone q) = absurd (stays (lost-stays (c .hearer) (heard e (c .burst)) (e .offer) r (answers (c .hearer) (heard e (c .burst)) (e .offer) r is) q))
+
+  out : (x : Place) (w : Words) (o : Owed) → Sent h x w o → l .hearer-at ≡ x → c .burst ≡ w → Told o (c .from-sender) → Ahead
+  out x w o (block-sent i) p q u =
+      let a : acceptedBy (c .hearer) (heard e (c .burst)) ≡ h .block ∷ [] = rw (hearer-here (l .hears) ∙ p, heard-whole e (c .burst) whole ∙ q, i) in
+      omega (arith, ap length (u .accepted-is), length-append (c .from-sender .confirmed) [], ap length a, length-append (c .from-sender .accepted) (acceptedBy (c .hearer) (heard e (c .burst))))
+  out x w o rqs-sent p q u = absurd (apart (hearer-here (l .hears) ∙ p) q)
+  out x w o (sent-again n) p q u =
+      omega (arith, ap length (u .accepted-is), length-append (c .from-sender .confirmed) (h .block ∷ []), length-append (c .from-sender .accepted) (acceptedBy (c .hearer) (heard e (c .burst))))
+
+  goes-out : Ahead
+  goes-out =
+      out (l .hearer-at) (l .would-say) (l .owed-sender) (subst (λ (q : Place). SentAt q (l .hearer-at) (l .would-say) (l .owed-sender)) (place-here (c .sender) (still-at (c .sender) (l .says)) at (not-lost h)) (sent-at (l .link))) refl (burst-is c (l .says) (λ z. not-lost h (sym at ∙ z))) (l .told-sender)
+
+-- That one has heard no block, and has accepted none.
+module _
+    (c : Circuit) (l : Linked c) (h : Held) (e : Event) (at : c .sender .place ≡ Sending h) (whole : Whole e)
+    (awaits : c .hearer .place ≡ Receiving (h .number)) (rqs : c .burst ≡ RQ×3) where
+  abbrev Level : Type 0
+  Level = c .from-sender .accepted ++ acceptedBy (c .hearer) (heard e (c .burst)) ≡ c .from-sender .confirmed
+
+  out-level : (x : Place) (w : Words) (o : Owed) → Sent h x w o → l .hearer-at ≡ x → c .burst ≡ w → Told o (c .from-sender) → Level
+  out-level x w o (block-sent i) p q u = absurd (not-rqs (h .block) i (sym q ∙ rqs))
+  out-level x w o rqs-sent p q u =
+      let a : acceptedBy (c .hearer) (heard e (c .burst)) ≡ [] = rw (awaits, heard-whole e (c .burst) whole ∙ rqs, rqs-no-block) in
+      cc (append-nil (c .from-sender .accepted), append-nil (c .from-sender .confirmed))
+  out-level x w o (sent-again n) p q u =
+      absurd (n (sym p ∙ place-here (c .hearer) (l .hears) awaits (receiving-not-lost (h .number))))
+
+  goes-out-level : Level
+  goes-out-level =
+      out-level (l .hearer-at) (l .would-say) (l .owed-sender) (subst (λ (q : Place). SentAt q (l .hearer-at) (l .would-say) (l .owed-sender)) (place-here (c .sender) (still-at (c .sender) (l .says)) at (not-lost h)) (sent-at (l .link))) refl (burst-is c (l .says) (λ z. not-lost h (sym at ∙ z))) (l .told-sender)
+
+-- one exchange, by its two replies
+abbrev step : Circuit → Event → Reply → Circuit
+step c e r = answeredBy c (heard e (c .burst)) r
+
+linked-step : (c : Circuit) (e : Event) (r : Reply) → Linked c → Whole e → said c e ≡ answered r → Linked (step c e r)
+linked-step c e r l w i = subst (λ (a : Answer Reply). Linked (goesOn c e a)) i (linked-next c e (whole-harmless e w) l)
+
+module _
+    (c : Circuit) (l : Linked c) (h : Held) (at : c .sender .place ≡ Sending h) (e₁ e₂ : Event) (whole₁ : Whole e₁)
+    (whole₂ : Whole e₂) (r₁ r₂ : Reply) (is₁ : said c e₁ ≡ answered r₁) (is₂ : said (step c e₁ r₁) e₂ ≡ answered r₂)
+    (stays₁ : r₁ .station .place ≡ Lost → ⊥) (stays₂ : r₂ .station .place ≡ Lost → ⊥) where
+  back : Back (step c e₁ r₁) h e₂ r₂
+  back = comes-back (step c e₁ r₁) (linked-step c e₁ r₁ l whole₁ is₁) h e₂ r₂ at stays₁ whole₂ is₂ stays₂
+
+  one : (c .hearer .place ≡ Receiving (h .number) → c .burst ≡ RQ×3 → ⊥) → Confirms h c (step (step c e₁ r₁) e₂ r₂)
+  one apart = go back
+    where
+      go : Back (step c e₁ r₁) h e₂ r₂ → Confirms h c (step (step c e₁ r₁) e₂ r₂)
+      go (confirmed q a) = record { rest = []; splits = cc (append-nil (c .from-sender .confirmed ++ h .block ∷ [])) }
+      go (block-now p s i n a) =
+          let g = goes-out c l h e₁ r₁ at whole₁ is₁ stays₁ apart in
+          absurd (omega (arith, ap length a, length-append (c .from-sender .confirmed) []))
+
+  not-by-one : c .hearer .place ≡ Receiving (h .number) → c .burst ≡ RQ×3 →
+      step (step c e₁ r₁) e₂ r₂ .from-sender .confirmed ≡ c .from-sender .confirmed
+  not-by-one awaits rqs = go back
+    where
+      go : Back (step c e₁ r₁) h e₂ r₂ → step (step c e₁ r₁) e₂ r₂ .from-sender .confirmed ≡ c .from-sender .confirmed
+      go (confirmed q a) =
+          let g = goes-out-level c l h e₁ at whole₁ awaits rqs in
+          absurd (omega (arith, ap length (sym g ∙ a), length-append (c .from-sender .confirmed) (h .block ∷ [])))
+      go (block-now p s i n a) = cc (append-nil (c .from-sender .confirmed))
+
+-- two exchanges, by their four replies
+lost-before : (c : Circuit) (e : Event) (r : Reply) → said c e ≡ answered r → (r .station .place ≡ Lost → ⊥) →
+    c .hearer .place ≡ Lost → ⊥
+lost-before c e r i n z = n (lost-stays (c .hearer) (heard e (c .burst)) (e .offer) r (answers (c .hearer) (heard e (c .burst)) (e .offer) r i) z)
+
+nothing-between : (k n m w : List Words) → n ≡ [] → Beginning Words ((k ++ n) ++ m) w → Beginning Words (k ++ m) w
+nothing-between k n m w e b = subst (λ (x : List Words). Beginning Words (x ++ m) w) (ap (λ (n : List Words). k ++ n) e ∙ append-nil k) b
+
+module _
+    (c : Circuit) (l : Linked c) (h : Held) (at : c .sender .place ≡ Sending h) (e₁ e₂ e₃ e₄ : Event) (whole₁ : Whole e₁)
+    (whole₂ : Whole e₂) (whole₃ : Whole e₃) (whole₄ : Whole e₄) (r₁ r₂ r₃ r₄ : Reply) (is₁ : said c e₁ ≡ answered r₁)
+    (is₂ : said (step c e₁ r₁) e₂ ≡ answered r₂) (is₃ : said (step (step c e₁ r₁) e₂ r₂) e₃ ≡ answered r₃)
+    (is₄ : said (step (step (step c e₁ r₁) e₂ r₂) e₃ r₃) e₄ ≡ answered r₄) (stays₃ : r₃ .station .place ≡ Lost → ⊥)
+    (stays₄ : r₄ .station .place ≡ Lost → ⊥) where
+  two : Confirms h c (step (step (step (step c e₁ r₁) e₂ r₂) e₃ r₃) e₄ r₄)
+  two = go (back c l h at e₁ e₂ whole₁ whole₂ r₁ r₂ is₁ is₂ stays₁ stays₂)
+    where
+      stays₁ : r₁ .station .place ≡ Lost → ⊥
+      stays₁ = lost-before (step (step c e₁ r₁) e₂ r₂) e₃ r₃ is₃ stays₃
+
+      stays₂ : r₂ .station .place ≡ Lost → ⊥
+      stays₂ = lost-before (step (step (step c e₁ r₁) e₂ r₂) e₃ r₃) e₄ r₄ is₄ stays₄
+
+      go : Back (step c e₁ r₁) h e₂ r₂ → Confirms h c (step (step (step (step c e₁ r₁) e₂ r₂) e₃ r₃) e₄ r₄)
+      go (confirmed q a) = record { rest = confirmedBy (r₂ .station) (heard e₄ (r₃ .sent)); splits = cc }
+      go (block-now p s i n a) =
+          let l₂ = linked-step (step c e₁ r₁) e₂ r₂ (linked-step c e₁ r₁ l whole₁ is₁) whole₂ is₂ in
+          nothing-between (c .from-sender .confirmed) _ _ _ n (one (step (step c e₁ r₁) e₂ r₂) l₂ h p e₃ e₄ whole₃ whole₄ r₃ r₄ is₃ is₄ stays₃ stays₄ (λ x y. not-rqs (h .block) i (sym s ∙ y)))
+
+-- and as demand 3 says it
+record Replies (c d : Circuit) : Type 0 where
+  e₁ : Event
+  e₂ : Event
+  whole₁ : Whole e₁
+  whole₂ : Whole e₂
+  r₁ : Reply
+  r₂ : Reply
+  is₁ : said c e₁ ≡ answered r₁
+  is₂ : said (step c e₁ r₁) e₂ ≡ answered r₂
+  ends-as : d ≡ step (step c e₁ r₁) e₂ r₂
+
+replies : (c d : Circuit) → Exchanged c d → Replies c d
+replies c d u = go (replied (said c (u .out)) (u .answered))
+  where
+    back-too : (r₁ : Reply) → said c (u .out) ≡ answered r₁ → next c (u .out) ≡ step c (u .out) r₁ →
+        (r₂ : Reply) × (said (step c (u .out) r₁) (u .back) ≡ answered r₂) → Replies c d
+    back-too r₁ i₁ s (r₂, i₂) =
+        record {
+          e₁ = u .out;
+          e₂ = u .back;
+          whole₁ = u .whole;
+          whole₂ = u .whole-back;
+          r₁ = r₁;
+          r₂ = r₂;
+          is₁ = i₁;
+          is₂ = i₂;
+          ends-as = u .leads ∙ ap (λ (x : Circuit). next x (u .back)) s ∙ ap (goesOn (step c (u .out) r₁) (u .back)) i₂;
+        }
+
+    go : (r₁ : Reply) × (said c (u .out) ≡ answered r₁) → Replies c d
+    go (r₁, i₁) =
+        let s = ap (goesOn c (u .out)) i₁ in
+        back-too r₁ i₁ s (replied (said (step c (u .out) r₁) (u .back)) (subst (λ (x : Circuit). isAnswered (said x (u .back)) ≡ true) s (u .answered-back)))
+
+module _ (c : Circuit) (l : Linked c) (h : Held) where
+  pub one-exchange : (d : Circuit) → c .sender .place ≡ Sending h → Exchanged c d → InTime d → ¬ AwaitsAtRq h c → Confirms h c d
+  one-exchange d at u t apart = go (replies c d u)
+    where
+      go : Replies c d → Confirms h c d
+      go y =
+          let t′ = subst InTime (y .ends-as) t in
+          subst (Confirms h c) (sym (y .ends-as)) (one c l h at (y .e₁) (y .e₂) (y .whole₁) (y .whole₂) (y .r₁) (y .r₂) (y .is₁) (y .is₂) (t′ .0) (t′ .1) (λ a b. apart (a, b)))
+
+  pub two-are-needed : (d : Circuit) → c .sender .place ≡ Sending h → Exchanged c d → InTime d → AwaitsAtRq h c →
+      d .from-sender .confirmed ≡ c .from-sender .confirmed
+  two-are-needed d at u t (awaits, rqs) = go (replies c d u)
+    where
+      go : Replies c d → d .from-sender .confirmed ≡ c .from-sender .confirmed
+      go y =
+          let t′ = subst InTime (y .ends-as) t in
+          ap (λ (x : Circuit). x .from-sender .confirmed) (y .ends-as) ∙ not-by-one c l h at (y .e₁) (y .e₂) (y .whole₁) (y .whole₂) (y .r₁) (y .r₂) (y .is₁) (y .is₂) (t′ .0) (t′ .1) awaits rqs
+
+  pub two-exchanges : (d g : Circuit) → c .sender .place ≡ Sending h → Exchanged c d → Exchanged d g → InTime g → Confirms h c g
+  two-exchanges d g at u v t = go (replies c d u)
+    where
+      both : (y : Replies c d) → Replies (step (step c (y .e₁) (y .r₁)) (y .e₂) (y .r₂)) g → Confirms h c g
+      both y z =
+          let t′ = subst InTime (z .ends-as) t in
+          subst (Confirms h c) (sym (z .ends-as)) (two c l h at (y .e₁) (y .e₂) (z .e₁) (z .e₂) (y .whole₁) (y .whole₂) (z .whole₁) (z .whole₂) (y .r₁) (y .r₂) (z .r₁) (z .r₂) (y .is₁) (y .is₂) (z .is₁) (z .is₂) (t′ .0) (t′ .1))
+
+      go : Replies c d → Confirms h c g
+      go y = both y (replies _ g (subst (λ (x : Circuit). Exchanged x g) (y .ends-as) v))

@@ -1,0 +1,288 @@
+-- Demand 3 cannot be said more strongly, and it tells wrong readings of the rows from 01's: each stronger sentence, and the same
+-- sentence over each wrong reading, is refuted by a computed run.
+--     no-…             what more might be said
+--     …-is-caught      a wrong reading, and the sentence that a run over it breaks
+-- Assumes nothing.
+use mathlib.Core.Path.{_≡_, refl, ap, subst}
+use mathlib.Core.Bool.{Bool, true, false}
+use mathlib.Core.List.{List, [], _∷_, _++_}
+use Prim.Native.Nat.{ℕ, zero, suc, _≤_}
+use native.Mathlib.Omega.{arith}
+use lib.ListN.{length, getD}
+use Rattle.laws.specs.Choice.{if_then_else_}
+use Rattle.signals.specs.Meaning.{meaningOf, trafficOf, wordNo, figures, cs3}
+use Rattle.signals.specs.Numbers.{Answer, answered, refused, firstNot}
+use Rattle.mode_a.specs.declared.Role.{Role}
+use Rattle.mode_a.specs.declared.Number.{Number}
+use Rattle.mode_a.specs.declared.Number.the-variants.{One, Two}
+use Rattle.mode_a.specs.declared.Words.{Words}
+use Rattle.mode_a.specs.declared.Held.{Held}
+use Rattle.mode_a.specs.declared.Ended.{Ended}
+use Rattle.mode_a.specs.declared.Place.{Place}
+use Rattle.mode_a.specs.declared.Place.the-variants.{Sending, Turning, Opening, Ending, Receiving, Asking, StandBy, Lost}
+use Rattle.mode_a.specs.declared.Offer.{Offer}
+use Rattle.mode_a.specs.declared.Doing.{Doing}
+use Rattle.mode_a.specs.declared.Doing.the-variants.{Repeats, Goes, Takes, Opens}
+use Rattle.mode_a.specs.declared.Reply.{Reply}
+use Rattle.mode_a.specs.Station.{words, single, silence, other}
+use Rattle.mode_a.specs.Heard.{First, Cs, Cs3, Rq, Else, Heard, firstOf, mayHold, isBlock, isWords, heardOf}
+use Rattle.mode_a.specs.Over.{query, cross, listened}
+use Rattle.mode_a.specs.Rows.{rowOf, sending, opening, asking, receiving}
+use Rattle.mode_a.specs.Step.{isOver, trafficIn, done, sound, stepping}
+use Rattle.circuit.specs.Circuit.{kept, hurt, Event, heard, Whole, Run, start, _▷_, Direction, Circuit, fresh, said, confirmedOf, answeredBy, next, after, AllHarmless, isAnswered}
+use Rattle.circuit.specs.Demand.{Carried, Exchanged, InTime, Confirms, Demand3}
+use Rattle.circuit.proofs.Computed.{run-of, through, computed}
+use Rattle.circuit.proofs.Runs.{clear, faded, struck, signals3, text, none, isHarmless, harmless-if}
+
+-- no block where there is one, one where there are two
+not-none : (n : ℕ) → 0 ≡ suc n → ⊥
+not-none n e = omega arith
+
+not-one : (n : ℕ) → 1 ≡ suc (suc n) → ⊥
+not-one n e = omega arith
+
+whole : (o : Offer) → Whole (clear o)
+whole o = (refl, refl, refl)
+
+-- an undamaged exchange with nothing offered
+abbrev exchange : Circuit → Circuit
+exchange c = next (next c (clear none)) (clear none)
+
+exchanged : (c : Circuit) → isAnswered (said c (clear none)) ≡ true → isAnswered (said (next c (clear none)) (clear none)) ≡ true →
+    Exchanged c (exchange c)
+exchanged c i j =
+    record { out = clear none; back = clear none; whole = whole none; whole-back = whole none; answered = i; answered-back = j; leads = refl }
+
+-- a computed place is not Lost
+abbrev isLost : Place → Bool
+isLost (Sending h) = false
+isLost (Turning n) = false
+isLost Opening = false
+isLost (Ending e) = false
+isLost (Receiving n) = false
+isLost Asking = false
+isLost StandBy = false
+isLost Lost = true
+
+in-time : (p : Place) → isLost p ≡ false → p ≡ Lost → ⊥
+in-time p i e = let z : true ≡ false = subst (λ (q : Place). isLost q ≡ false) e i in let y : _≡_ {A = ℕ} 0 1 = cc in omega arith
+
+-- printing is never ahead
+no-lock-step : ((run : Run) → AllHarmless run → length (after run .from-hearer .accepted) ≤ length (after run .from-hearer .confirmed)) →
+    ⊥
+unfolding AllHarmless after stepping sound done firstNot isBlock mayHold trafficOf meaningOf heardOf firstOf isWords listened trafficIn
+no-lock-step claim =
+    let h : 1 ≤ 0 = claim (start ▷ clear (text 1 2 3) ▷ clear none) ((tt, (tt, tt, tt)), (tt, tt, tt)) in omega arith
+
+-- one exchange for two: the block is damaged, and so is the answer, so that RQ RQ RQ is on the way
+abbrev twice-damaged : Run
+twice-damaged = start ▷ clear (text 1 2 3) ▷ struck none ▷ faded none
+
+no-single-exchange : ((run : Run) → AllHarmless run → (h : Held) (d : Circuit) → after run .sender .place ≡ Sending h → Exchanged (after run) d → InTime d → Confirms h (after run) d) →
+    ⊥
+unfolding AllHarmless after stepping sound done firstNot isBlock mayHold trafficOf meaningOf heardOf firstOf isWords listened trafficIn
+no-single-exchange claim =
+    let b = claim twice-damaged (((tt, (tt, tt, tt)), (tt, refl, tt)), (refl, tt, tt)) (record { number = One; block = signals3 1 2 3 }) _ refl (exchanged (after twice-damaged) refl refl) (in-time _ refl, in-time _ refl) in
+    not-none (length (b .rest)) (ap length (b .splits))
+
+-- the time-out left out: both have repeated 31 times
+abbrev both-fade : ℕ → List Event
+both-fade zero = []
+both-fade (suc n) = faded none ∷ faded none ∷ both-fade n
+
+abbrev almost-lost : List Event
+almost-lost = clear (text 1 2 3) ∷ both-fade 31
+
+abbrev Untimed : Circuit → Type 0
+Untimed c = (h : Held) (d g : Circuit) → c .sender .place ≡ Sending h → Exchanged c d → Exchanged d g → Confirms h c g
+
+no-untimed : ((run : Run) → AllHarmless run → Untimed (after run)) → ⊥
+unfolding AllHarmless after through stepping sound done firstNot isBlock mayHold trafficOf meaningOf heardOf firstOf isWords listened trafficIn
+no-untimed claim =
+    let f = subst Untimed (computed start almost-lost) (claim (run-of start almost-lost) (harmless-if start almost-lost tt refl)) in
+    let b = f (record { number = One; block = signals3 1 2 3 }) _ _ refl (exchanged (through next fresh almost-lost) refl refl) (exchanged (exchange (through next fresh almost-lost)) refl refl) in
+    not-none (length (b .rest)) (ap length (b .splits))
+
+-- damage that looks like a signal: D is heard for A
+no-disguised-damage : ((run : Run) → Demand3 (after run)) → ⊥
+unfolding after stepping sound done firstNot isBlock mayHold trafficOf meaningOf heardOf firstOf isWords listened trafficIn
+no-disguised-damage claim =
+    let b = claim (start ▷ clear (text 1 2 3) ▷ record { first = hurt (wordNo 4); second = kept; third = kept; offer = none }) .from-hearer .accepts-a-beginning in
+    let n : wordNo 1 ≡ wordNo 4 = ap (λ (l : List Words). getD l 0 silence .0) (b .splits) in
+    omega arith
+
+-- an over taken at Receiving counted as a block
+abbrev overAsBlock : Place → List Words
+overAsBlock (Sending h) = []
+overAsBlock (Turning n) = []
+overAsBlock Opening = []
+overAsBlock (Ending e) = []
+overAsBlock (Receiving n) = []
+overAsBlock Asking = words figures cross query ∷ []
+overAsBlock StandBy = []
+overAsBlock Lost = []
+
+abbrev oversTaken : Answer Reply → List Words
+oversTaken (answered r) = if r .taken then overAsBlock (r .station .place) else []
+oversTaken (refused n v) = []
+
+abbrev withOvers : Direction → List Words → Direction
+withOvers d l = record { taken = d .taken ++ l; accepted = d .accepted; printed = d .printed; confirmed = d .confirmed }
+
+abbrev countingOvers : Circuit → Event → Circuit
+countingOvers c e =
+    record {
+      hearer = next c e .hearer;
+      sender = next c e .sender;
+      burst = next c e .burst;
+      from-hearer = next c e .from-hearer;
+      from-sender = withOvers (next c e .from-sender) (oversTaken (said c e));
+    }
+
+abbrev over-offered : List Event
+over-offered = clear none ∷ clear Offer.Over ∷ clear none ∷ clear none ∷ clear none ∷ clear (text 4 5 6) ∷ clear none ∷ []
+
+no-over-as-a-block : ((es : List Event) → isHarmless es ≡ true → Carried (through countingOvers fresh es .from-hearer)) → ⊥
+unfolding through stepping sound done firstNot isBlock mayHold trafficOf meaningOf heardOf firstOf isWords listened trafficIn
+no-over-as-a-block claim =
+    let b = claim over-offered refl .accepts-a-beginning in
+    let n : figures ≡ wordNo 4 = ap (λ (l : List Words). getD l 0 silence .0) (b .splits) in
+    omega arith
+
+-- the end block not excepted: it gets its confirmation where its sender hears the other number
+data Or (A B : Type 0) : Type 0 where
+  in-the-first : A → Or A B
+  in-the-second : B → Or A B
+
+abbrev HearsOther : Ended → Circuit → Event → Type 0
+HearsOther x c e = firstOf (next c e .burst .0) ≡ Cs (other (x .number))
+
+abbrev end-answer-lost : Run
+end-answer-lost = start ▷ clear Offer.End ▷ clear none ▷ faded none
+
+no-end-block : ((run : Run) → AllHarmless run → (x : Ended) (d g : Circuit) → after run .sender .place ≡ Ending x → (u : Exchanged (after run) d) (v : Exchanged d g) → InTime g → Or (HearsOther x (after run) (u .out)) (HearsOther x d (v .out))) →
+    ⊥
+unfolding AllHarmless after stepping sound done firstNot isBlock mayHold trafficOf meaningOf heardOf firstOf isWords listened trafficIn exchanged
+no-end-block claim =
+    go (claim end-answer-lost (((tt, (tt, tt, tt)), (tt, tt, tt)), (refl, tt, tt)) (record { number = One; total = 2 }) _ _ refl (exchanged (after end-answer-lost) refl refl) (exchanged (exchange (after end-answer-lost)) refl refl) (in-time _ refl, in-time _ refl))
+  where
+    go : Or (Else ≡ Cs Two) (Else ≡ Cs Two) → ⊥
+    go (in-the-first e) = let y : _≡_ {A = ℕ} 0 1 = cc in omega arith
+    go (in-the-second e) = let y : _≡_ {A = ℕ} 0 1 = cc in omega arith
+
+-- Wrong readings. The rows with those of Sending, Opening, Receiving and Asking read otherwise; 01's where they are not.
+abbrev rowsWith : (Held → First → Doing) → (Role → First → Doing) → (Number → Heard → Offer → Doing) → (Heard → Doing) → Role →
+    Place → Heard → Offer → Doing
+rowsWith s p v a r (Sending x) h o = s x (h .first)
+rowsWith s p v a r (Turning n) h o = rowOf r (Turning n) h
+rowsWith s p v a r Opening h o = p r (h .first)
+rowsWith s p v a r (Ending e) h o = rowOf r (Ending e) h
+rowsWith s p v a r (Receiving n) h o = v n h o
+rowsWith s p v a r Asking h o = a h
+rowsWith s p v a r StandBy h o = rowOf r StandBy h
+rowsWith s p v a r Lost h o = rowOf r Lost h
+
+abbrev receives : Number → Heard → Offer → Doing
+receives n h o = receiving n h
+
+right-rows : (r : Role) (x : Place) (h : Heard) (o : Offer) → rowsWith sending opening receives asking r x h o ≡ rowOf r x h
+right-rows r (Sending x) h o = refl
+right-rows r (Turning n) h o = refl
+right-rows r Opening h o = refl
+right-rows r (Ending e) h o = refl
+right-rows r (Receiving n) h o = refl
+right-rows r Asking h o = refl
+right-rows r StandBy h o = refl
+right-rows r Lost h o = refl
+
+-- the step of a circuit whose stations follow some rows
+abbrev stepBy : (Role → Place → Heard → Offer → Doing) → Circuit → Event → Circuit
+stepBy rows c e =
+    let b = heard e (c .burst) in
+    answeredBy c b (done (c .hearer) b (e .offer) (rows (c .hearer .role) (c .hearer .place) (heardOf b) (e .offer)))
+
+-- the sentences, over any step
+abbrev CarriesBy : (Circuit → Event → Circuit) → Type 0
+CarriesBy step = (es : List Event) → isHarmless es ≡ true → Carried (through step fresh es .from-hearer) × Carried (through step fresh es .from-sender)
+
+abbrev TwoAfter : Held → Circuit → Circuit → Type 0
+TwoAfter h c d = InTime d → Confirms h c d
+
+abbrev TwoExchangesBy : (Circuit → Event → Circuit) → Type 0
+TwoExchangesBy step =
+    (es : List Event) → isHarmless es ≡ true → (h : Held) (e₁ e₂ e₃ e₄ : Event) → through step fresh es .sender .place ≡ Sending h → Whole e₁ → Whole e₂ → Whole e₃ → Whole e₄ → TwoAfter h (through step fresh es) (step (step (step (step (through step fresh es) e₁) e₂) e₃) e₄)
+
+-- "CS3: confirmed" overlooked: the step is 01's, and what is heard as CS3 is not counted
+abbrev numberOnly : First → First
+numberOnly (Cs n) = Cs n
+numberOnly Cs3 = Else
+numberOnly Rq = Rq
+numberOnly Else = Else
+
+abbrev uncounted : Circuit → Event → Circuit
+uncounted c e =
+    record {
+      hearer = next c e .hearer;
+      sender = next c e .sender;
+      burst = next c e .burst;
+      from-hearer = next c e .from-hearer;
+      from-sender = record {
+        taken = next c e .from-sender .taken;
+        accepted = next c e .from-sender .accepted;
+        printed = next c e .from-sender .printed;
+        confirmed = c .from-hearer .confirmed ++ confirmedOf (c .hearer .place) (numberOnly (firstOf (heard e (c .burst) .0)));
+      };
+    }
+
+cs3-not-counted-is-caught : TwoExchangesBy uncounted → ⊥
+unfolding through stepping sound done firstNot isBlock mayHold trafficOf meaningOf heardOf firstOf isWords listened trafficIn
+cs3-not-counted-is-caught claim =
+    let b = claim (clear (text 1 2 3) ∷ clear Offer.Over ∷ faded none ∷ []) refl (record { number = One; block = signals3 1 2 3 }) (clear none) (clear none) (clear none) (clear none) refl (whole none) (whole none) (whole none) (whole none) (in-time _ refl, in-time _ refl) in
+    not-none (length (b .rest)) (ap length (b .splits))
+
+-- "All else: send RQ RQ RQ" read as the block again: it is printed twice
+abbrev sendsBlock : Held → First → Doing
+sendsBlock h (Cs n) = sending h (Cs n)
+sendsBlock h Cs3 = sending h Cs3
+sendsBlock h Rq = Repeats (h .block)
+sendsBlock h Else = Repeats (h .block)
+
+block-for-rq-is-caught : CarriesBy (stepBy (rowsWith sendsBlock opening receives asking)) → ⊥
+unfolding through done firstNot isBlock mayHold trafficOf meaningOf heardOf firstOf isWords listened trafficIn
+block-for-rq-is-caught claim =
+    let b = claim (clear (text 1 2 3) ∷ clear none ∷ faded none ∷ clear none ∷ []) refl .0 .accepts-a-beginning in
+    not-one (length (b .rest)) (ap length (b .splits))
+
+-- "βαβ: go to Opening" done at RQ RQ RQ too: the block is never confirmed
+abbrev opensAtRq : Heard → Doing
+opensAtRq h = if h .RQs then Opens else asking h
+
+rq-for-βαβ-is-caught : TwoExchangesBy (stepBy (rowsWith sending opening receives opensAtRq)) → ⊥
+unfolding through done firstNot isBlock mayHold trafficOf meaningOf heardOf firstOf isWords listened trafficIn
+rq-for-βαβ-is-caught claim =
+    let b = claim (clear (text 1 2 3) ∷ clear Offer.Over ∷ faded none ∷ clear none ∷ clear none ∷ []) refl (record { number = One; block = signals3 1 2 3 }) (clear none) (clear none) (clear none) (clear none) refl (whole none) (whole none) (whole none) (whole none) (in-time _ refl, in-time _ refl) in
+    not-none (length (b .rest)) (ap length (b .splits))
+
+-- "or the offer is over" applied to a burst that is no block: it is confirmed and not printed
+abbrev breaksIn : Number → Heard → Offer → Doing
+breaksIn n h o =
+    if h .block then receiving n h else if h .alphas then receiving n h else if isOver o then Goes Asking (single cs3) else receiving n h
+
+over-unaccepted-is-caught : CarriesBy (stepBy (rowsWith sending opening breaksIn asking)) → ⊥
+unfolding through done firstNot isBlock mayHold trafficOf meaningOf heardOf firstOf isWords listened trafficIn
+over-unaccepted-is-caught claim =
+    let b = claim (clear (text 1 2 3) ∷ struck Offer.Over ∷ clear none ∷ []) refl .1 .confirmed-is-printed in
+    not-none (length (b .rest)) (ap length (b .splits))
+
+-- "take the offer under that number" read as number 1: a block is printed twice
+abbrev takesOne : Role → First → Doing
+takesOne r (Cs n) = Takes One
+takesOne r Cs3 = opening r Cs3
+takesOne r Rq = opening r Rq
+takesOne r Else = opening r Else
+
+always-one-is-caught : CarriesBy (stepBy (rowsWith sending takesOne receives asking)) → ⊥
+unfolding through done firstNot isBlock mayHold trafficOf meaningOf heardOf firstOf isWords listened trafficIn
+always-one-is-caught claim =
+    let b = claim (clear Offer.Over ∷ clear none ∷ clear none ∷ clear none ∷ clear none ∷ clear (text 4 5 6) ∷ clear none ∷ clear none ∷ clear none ∷ []) refl .0 .accepts-a-beginning in
+    not-one (length (b .rest)) (ap length (b .splits))

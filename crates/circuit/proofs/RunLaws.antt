@@ -1,0 +1,300 @@
+-- Every circuit of a run is linked; and what follows of that at once.
+--     linked         every run
+--     carried        what is owed tells what a direction has carried
+--     never-both     no phase has both at Sending
+--     no-cs3-heard   no phase lets Opening hear CS3
+-- Assumes nothing.
+use mathlib.Core.Path.{_≡_, refl, ap, sym, subst, _∙_}
+use mathlib.Core.Bool.{Bool, true, false, not, _&&_}
+use mathlib.Core.List.{List, [], _∷_, _++_, append-nil, append-assoc}
+use Prim.Native.Nat.{ℕ, suc, _≤_}
+use native.Mathlib.Omega.{arith}
+use lib.Dec.{ltb}
+use lib.ListN.{length, length-append}
+use Rattle.laws.specs.Choice.{if_then_else_}
+use Rattle.signals.specs.Numbers.{Answer, answered, refused, firstNot}
+use Rattle.mode_a.specs.declared.Words.{Words}
+use Rattle.mode_a.specs.declared.Held.{Held}
+use Rattle.mode_a.specs.declared.Place.{Place}
+use Rattle.mode_a.specs.declared.Place.the-variants.{Sending, Turning, Opening, Ending, Receiving, Asking, StandBy, Lost}
+use Rattle.mode_a.specs.declared.Offer.{Offer}
+use Rattle.mode_a.specs.declared.Station.{Station}
+use Rattle.mode_a.specs.declared.Reply.{Reply}
+use Rattle.mode_a.specs.Station.{listOf}
+use Rattle.mode_a.specs.Heard.{First, Cs, Cs3, Rq, Else, firstOf, mayHold, isBlock, heardOf}
+use Rattle.mode_a.specs.Rows.{rowOf}
+use Rattle.mode_a.specs.Step.{done, sound, offered, stepping}
+use Rattle.circuit.specs.Circuit.{Event, heard, Harmless, Run, start, _▷_, traffic, signalsIn, Direction, Circuit, fresh, said, confirmedBy, acceptedBy, answeredBy, goesOn, next, after, AllHarmless}
+use Rattle.circuit.specs.Demand.{InOrder, Carried}
+use Rattle.circuit.proofs.DamageLaws.{never, Mangled, mangled, mangled-silence, FirstIs, first-heard}
+use Rattle.circuit.proofs.Link.{Owed, none, unheard, heard as accepted, Link, s1-block, s1-rqs, s1-own, s1-rqs′, s1-other, s2-rqs, s2-cs3, s3-any, s3-cs3, s4-rq, s4-rqs, s5-asks, s5-rq, e1-alphas, e1-any, e2-any, e2-any′, e3-silence, e3-any, e4-any, Told, waiting, ahead, At, here, gone, Says, aloud, no-more, Linked, Moved, stays, takes-block, confirms, confirms-and-takes, Came, nothing-new, came, After}
+use Rattle.circuit.proofs.StepLaws.{asks-first, acts-at}
+
+-- an answer is what the row did, and its offer was in order
+fine-text : (w : Words) → ltb (firstNot mayHold (listOf w)) 3 ≡ false → isBlock w ≡ true
+unfolding firstNot isBlock
+fine-text w = go (mayHold (w .0)) (mayHold (w .1)) (mayHold (w .2))
+  where
+    go : (a b c : Bool) → ltb (if a then suc (if b then suc (if c then suc 0 else 0) else 0) else 0) 3 ≡ false →
+        (a && (b && c)) ≡ true
+    go true true true e = refl
+    go true true false e = never e
+    go true false c e = never e
+    go false b c e = never e
+
+fine : (o : Offer) → ltb (firstNot mayHold (offered o)) (length (offered o)) ≡ false → InOrder o
+fine (Offer.Text w) e = fine-text w e
+fine Offer.Over e = tt
+fine Offer.End e = tt
+fine Offer.Nothing e = tt
+
+pub record Answers (s : Station) (b : Words) (o : Offer) (r : Reply) : Type 0 where
+  pub is-done : r ≡ done s b o (rowOf (s .role) (s .place) (heardOf b))
+  pub is-fine : InOrder o
+
+pub answers : (s : Station) (b : Words) (o : Offer) (r : Reply) → stepping s b o ≡ answered r → Answers s b o r
+unfolding stepping
+answers s b o r e = go (sound s) (ltb (firstNot mayHold (offered o)) (length (offered o))) refl e
+  where
+    go : (p q : Bool) → ltb (firstNot mayHold (offered o)) (length (offered o)) ≡ q →
+        _≡_ {A = Answer Reply} (if not p then refused 4 0 else if q then refused 3 (firstNot mayHold (offered o)) else answered (done s b o (rowOf (s .role) (s .place) (heardOf b)))) (answered r) →
+        Answers s b o r
+    go false q i e = let z : _≡_ {A = ℕ} 0 1 = cc in absurd (omega arith)
+    go true true i e = let z : _≡_ {A = ℕ} 0 1 = cc in absurd (omega arith)
+    go true false i e = record { is-done = cc; is-fine = fine o i }
+
+-- the lists of a direction
+signals-append : (l m : List Words) → signalsIn (l ++ m) ≡ signalsIn l ++ signalsIn m
+unfolding signalsIn
+signals-append [] m = refl
+signals-append (b ∷ bs) m = rw (signals-append bs m) (sym (append-assoc (traffic (listOf b)) (signalsIn bs) (signalsIn m)))
+
+abbrev sent : Direction → List Words → List Words → Direction
+sent d t c = record { taken = d .taken ++ t; accepted = d .accepted; printed = d .printed; confirmed = d .confirmed ++ c }
+
+abbrev received : Direction → List Words → List ℕ → Direction
+received d a q = record { taken = d .taken; accepted = d .accepted ++ a; printed = d .printed ++ q; confirmed = d .confirmed }
+
+told-sent : {o o′ : Owed} {t c : List Words} (d : Direction) → Told o d → Moved o o′ t c → Told o′ (sent d t c)
+told-sent d u stays =
+    record {
+      taken-is = cc (append-nil (d .taken), append-nil (d .confirmed));
+      accepted-is = cc (append-nil (d .confirmed));
+      printed-is = u .printed-is;
+    }
+told-sent d u takes-block =
+    record { taken-is = cc; accepted-is = cc (append-nil (d .confirmed ++ [])); printed-is = u .printed-is }
+told-sent d u (confirms {b = b}) =
+    record {
+      taken-is = cc (append-nil (d .taken), append-nil (d .confirmed ++ b ∷ []));
+      accepted-is = cc (append-nil (d .confirmed ++ b ∷ []));
+      printed-is = u .printed-is;
+    }
+told-sent d u (confirms-and-takes {b = b}) =
+    record { taken-is = cc; accepted-is = cc (append-nil (d .confirmed ++ b ∷ [])); printed-is = u .printed-is }
+
+one-block : (b : Words) → signalsIn (b ∷ []) ≡ traffic (listOf b)
+unfolding signalsIn
+one-block b = append-nil (traffic (listOf b))
+
+told-received : {o o′ : Owed} {a : List Words} {q : List ℕ} (d : Direction) → Told o d → Came o o′ a q → Told o′ (received d a q)
+told-received d u nothing-new =
+    record {
+      taken-is = u .taken-is;
+      accepted-is = cc (append-nil (d .accepted));
+      printed-is = cc (append-nil (d .accepted), append-nil (d .printed));
+    }
+told-received d u (came {b = b}) =
+    record {
+      taken-is = u .taken-is;
+      accepted-is = cc (append-nil (d .confirmed));
+      printed-is = cc (signals-append (d .accepted) (b ∷ []), one-block b);
+    }
+
+-- one step
+pub heard-mangled : {p : Place} {w : Words} (c : Circuit) (e : Event) → Harmless e → Says (c .sender) p (c .burst) w →
+    Mangled w (heard e (c .burst))
+heard-mangled c e h (aloud q i) = subst (λ (v : Words). Mangled v (heard e (c .burst))) i (mangled e (c .burst) h)
+heard-mangled {w = w} c e h (no-more q i) = subst (λ (v : Words). Mangled w (heard e v)) (sym i) (mangled-silence e w h)
+
+pub still-at : {p : Place} {sent w : Words} (s : Station) → Says s p sent w → At s p
+still-at s (aloud q i) = here q
+still-at s (no-more q i) = gone q
+
+linked-again : (c : Circuit) (b : Words) (r : Reply) (l : Linked c) →
+    After (l .owed-hearer) (l .owed-sender) (l .sender-at) r (confirmedBy (c .hearer) b) (acceptedBy (c .hearer) b) →
+    Linked (answeredBy c b r)
+linked-again c b r l a =
+    record {
+      hearer-at = l .sender-at;
+      sender-at = a .place;
+      would-say = a .word;
+      owed-hearer = a .op′;
+      owed-sender = a .ox′;
+      link = a .link;
+      hears = still-at (c .sender) (l .says);
+      says = a .says;
+      told-hearer = told-received (c .from-sender) (l .told-sender) (a .hears);
+      told-sender = told-sent (c .from-hearer) (l .told-hearer) (a .sends);
+    }
+
+pub linked-next : (c : Circuit) (e : Event) → Harmless e → Linked c → Linked (next c e)
+linked-next c e h l = go (said c e) refl
+  where
+    go : (a : Answer Reply) → said c e ≡ a → Linked (goesOn c e a)
+    go (answered r) i =
+        let y = answers (c .hearer) (heard e (c .burst)) (e .offer) r i in
+        linked-again c (heard e (c .burst)) r l (rw (y .is-done) (acts-at (c .hearer) (heard e (c .burst)) (e .offer) (l .hears) (l .link) (heard-mangled c e h (l .says)) (y .is-fine)))
+    go (refused n v) i = l
+
+-- every run
+linked-fresh : Linked fresh
+unfolding signalsIn
+linked-fresh =
+    record {
+      hearer-at = _;
+      sender-at = _;
+      would-say = _;
+      owed-hearer = _;
+      owed-sender = _;
+      link = s5-asks;
+      hears = here refl;
+      says = aloud refl refl;
+      told-hearer = record { taken-is = refl; accepted-is = refl; printed-is = refl };
+      told-sender = record { taken-is = refl; accepted-is = refl; printed-is = refl };
+    }
+
+pub linked : (run : Run) → AllHarmless run → Linked (after run)
+unfolding after AllHarmless
+linked start a = linked-fresh
+linked (run ▷ e) a = linked-next (after run) e (a .1) (linked run (a .0))
+
+-- what is owed tells what a direction has carried
+left : Owed → List Words
+left none = []
+left (unheard b) = b ∷ []
+left (accepted b) = []
+
+ahead-left : (o : Owed) → waiting o ≡ ahead o ++ left o
+unfolding left
+ahead-left none = refl
+ahead-left (unheard b) = refl
+ahead-left (accepted b) = refl
+
+one-ahead : (o : Owed) → length (ahead o) ≤ 1
+one-ahead none = omega arith
+one-ahead (unheard b) = omega arith
+one-ahead (accepted b) = omega arith
+
+pub carried : (o : Owed) (d : Direction) → Told o d → Carried d
+carried o d u =
+    let splits : d .taken ≡ d .accepted ++ left o = cc (ahead-left o, append-assoc (d .confirmed) (ahead o) (left o)) in
+    record {
+      accepts-a-beginning = record { rest = left o; splits = splits };
+      prints-what-it-accepts = u .printed-is;
+      prints-a-beginning = record { rest = signalsIn (left o); splits = cc (signals-append (d .accepted) (left o)) };
+      confirmed-is-printed = record { rest = ahead o; splits = u .accepted-is };
+      ahead-by-at-most-one = omega (arith, one-ahead o, ap length (u .accepted-is), length-append (d .confirmed) (ahead o));
+    }
+
+-- no phase has both at Sending
+abbrev isSending : Place → Bool
+isSending (Sending h) = true
+isSending (Turning n) = false
+isSending Opening = false
+isSending (Ending e) = false
+isSending (Receiving n) = false
+isSending Asking = false
+isSending StandBy = false
+isSending Lost = false
+
+not-both : {x p : Place} {w : Words} {ox op : Owed} → Link x p w ox op → isSending x && isSending p ≡ false
+not-both (s1-block i) = refl
+not-both (s1-rqs i) = refl
+not-both (s1-own i) = refl
+not-both s1-rqs′ = refl
+not-both s1-other = refl
+not-both s2-rqs = refl
+not-both s2-cs3 = refl
+not-both s3-any = refl
+not-both s3-cs3 = refl
+not-both (s4-rq r) = refl
+not-both s4-rqs = refl
+not-both s5-asks = refl
+not-both (s5-rq r) = refl
+not-both e1-alphas = refl
+not-both e1-any = refl
+not-both e2-any = refl
+not-both e2-any′ = refl
+not-both e3-silence = refl
+not-both e3-any = refl
+not-both e4-any = refl
+
+-- a station that is not Lost is where its link says
+pub place-here : {x q : Place} (s : Station) → At s x → s .place ≡ q → (q ≡ Lost → ⊥) → x ≡ q
+place-here s (here e) p n = sym e ∙ p
+place-here s (gone e) p n = absurd (n (sym p ∙ e))
+
+pub not-lost : (h : Held) → Sending h ≡ Lost → ⊥
+not-lost h e = let z : _≡_ {A = ℕ} 0 1 = cc in omega arith
+
+pub never-both : (c : Circuit) → Linked c → (h g : Held) → c .hearer .place ≡ Sending h → c .sender .place ≡ Sending g → ⊥
+never-both c l h g p q =
+    let i = place-here (c .hearer) (l .hears) p (not-lost h) in
+    let j = place-here (c .sender) (still-at (c .sender) (l .says)) q (not-lost g) in
+    never (rw (i, j) at (not-both (l .link)))
+
+-- what Opening hears
+abbrev isOpening : Place → Bool
+isOpening (Sending h) = false
+isOpening (Turning n) = false
+isOpening Opening = true
+isOpening (Ending e) = false
+isOpening (Receiving n) = false
+isOpening Asking = false
+isOpening StandBy = false
+isOpening Lost = false
+
+abbrev isCs3 : First → Bool
+isCs3 (Cs n) = false
+isCs3 Cs3 = true
+isCs3 Rq = false
+isCs3 Else = false
+
+pub no-cs3 : {x p : Place} {w : Words} {ox op : Owed} → Link x p w ox op → isOpening x && isCs3 (firstOf (w .0)) ≡ false
+unfolding firstOf
+no-cs3 (s1-block i) = refl
+no-cs3 (s1-rqs i) = refl
+no-cs3 (s1-own i) = refl
+no-cs3 s1-rqs′ = refl
+no-cs3 s1-other = refl
+no-cs3 s2-rqs = refl
+no-cs3 s2-cs3 = refl
+no-cs3 s3-any = refl
+no-cs3 s3-cs3 = refl
+no-cs3 (s4-rq r) = refl
+no-cs3 s4-rqs = refl
+no-cs3 (s5-asks {k = k}) = ap isCs3 (asks-first k)
+no-cs3 (s5-rq r) = refl
+no-cs3 e1-alphas = refl
+no-cs3 e1-any = refl
+no-cs3 e2-any = refl
+no-cs3 e2-any′ = refl
+no-cs3 e3-silence = refl
+no-cs3 e3-any = refl
+no-cs3 e4-any = refl
+
+kept-cs3 : (f g : First) → FirstIs f g → g ≡ Cs3 → isCs3 f ≡ true
+kept-cs3 f g FirstIs.said e = rw e
+kept-cs3 f g FirstIs.unsaid e = let z : _≡_ {A = ℕ} 0 1 = cc in absurd (omega arith)
+
+opening-not-lost : Opening ≡ Lost → ⊥
+opening-not-lost e = let z : _≡_ {A = ℕ} 0 1 = cc in omega arith
+
+pub no-cs3-heard : (c : Circuit) → Linked c → (e : Event) → Harmless e → c .hearer .place ≡ Opening →
+    firstOf (heard e (c .burst) .0) ≡ Cs3 → ⊥
+no-cs3-heard c l e h p q =
+    let i = place-here (c .hearer) (l .hears) p opening-not-lost in
+    let m = heard-mangled c e h (l .says) in
+    let k = kept-cs3 (firstOf (l .would-say .0)) (firstOf (heard e (c .burst) .0)) (first-heard (l .would-say .0) (heard e (c .burst) .0) (m .word0)) q in
+    never (rw (i, k) at (no-cs3 (l .link)))

@@ -1,0 +1,164 @@
+-- Runs of a fresh master and a fresh slave, computed: what demand 3 speaks of happens.
+--     through-three-turns, and-back   text both ways, through a turn by an over sent, by an over offered at Receiving, and by + ? inside
+--                                     text, with damage at each turn, to the end: all is printed and confirmed
+--     printed-and-lost                a station times out with a block that is printed and not confirmed
+-- Assumes nothing.
+use mathlib.Core.Path.{_≡_, refl, sym, subst}
+use mathlib.Core.Bool.{Bool, true, _&&_}
+use mathlib.Core.List.{List, [], _∷_, _++_}
+use Prim.Native.Nat.{ℕ, zero, suc}
+use lib.Dec.{eqb}
+use borrow.Author.Tests.{eqb-true}
+use Rattle.signals.specs.Meaning.{meaningOf, trafficOf, wordNo, letters, figures}
+use Rattle.signals.specs.Numbers.{firstNot}
+use Rattle.mode_a.specs.declared.Words.{Words}
+use Rattle.mode_a.specs.declared.Place.the-variants.{StandBy, Lost}
+use Rattle.mode_a.specs.declared.Offer.{Offer}
+use Rattle.mode_a.specs.Station.{words}
+use Rattle.mode_a.specs.Heard.{firstOf, mayHold, isBlock, isWords, heardOf}
+use Rattle.mode_a.specs.Over.{query, cross, listened}
+use Rattle.mode_a.specs.Step.{trafficIn, done, sound, stepping}
+use Rattle.circuit.specs.Circuit.{Damage, kept, hurt, NoSignal, Event, Harmless, Run, start, _▷_, traffic, signalsIn, Direction, Circuit, after, AllHarmless}
+use Rattle.circuit.specs.Demand.{Demand3}
+use Rattle.circuit.proofs.DamageLaws.{and-left, and-right}
+use Rattle.circuit.proofs.Computed.{run-of, through, computed}
+use Rattle.circuit.proofs.Theorem.{demand3}
+
+-- heard as it was sent; and with one word that is no signal: a zero in place of the first, 127 in place of the second
+abbrev pub clear : Offer → Event
+clear o = record { first = kept; second = kept; third = kept; offer = o }
+
+abbrev pub faded : Offer → Event
+faded o = record { first = hurt 0; second = kept; third = kept; offer = o }
+
+abbrev pub struck : Offer → Event
+struck o = record { first = kept; second = hurt 127; third = kept; offer = o }
+
+abbrev pub signals3 : ℕ → ℕ → ℕ → Words
+signals3 i j k = words (wordNo i) (wordNo j) (wordNo k)
+
+abbrev pub text : ℕ → ℕ → ℕ → Offer
+text i j k = Offer.Text (signals3 i j k)
+
+abbrev pub none : Offer
+none = Offer.Nothing
+
+-- a computed run is harmless by a test
+abbrev pub noSignal : Damage → Bool
+noSignal kept = true
+noSignal (hurt b) = eqb (meaningOf b) 0
+
+no-signal-if : (d : Damage) → noSignal d ≡ true → NoSignal d
+no-signal-if kept e = tt
+no-signal-if (hurt b) e = eqb-true (meaningOf b) 0 e
+
+abbrev pub isHarmlessEvent : Event → Bool
+isHarmlessEvent e = noSignal (e .first) && (noSignal (e .second) && noSignal (e .third))
+
+harmless-event : (e : Event) → isHarmlessEvent e ≡ true → Harmless e
+harmless-event e i =
+    let j = and-right (noSignal (e .first)) (noSignal (e .second) && noSignal (e .third)) i in (
+      no-signal-if (e .first) (and-left (noSignal (e .first)) (noSignal (e .second) && noSignal (e .third)) i),
+      no-signal-if (e .second) (and-left (noSignal (e .second)) (noSignal (e .third)) j),
+      no-signal-if (e .third) (and-right (noSignal (e .second)) (noSignal (e .third)) j),
+    )
+
+abbrev pub isHarmless : List Event → Bool
+isHarmless [] = true
+isHarmless (e ∷ es) = isHarmlessEvent e && isHarmless es
+
+pub harmless-if : (run : Run) (es : List Event) → AllHarmless run → isHarmless es ≡ true → AllHarmless (run-of run es)
+unfolding AllHarmless
+harmless-if run [] a i = a
+harmless-if run (e ∷ es) a i =
+    harmless-if (run ▷ e) es (a, harmless-event e (and-left (isHarmlessEvent e) (isHarmless es) i)) (and-right (isHarmlessEvent e) (isHarmless es) i)
+
+-- what a direction has carried, all of it printed and confirmed
+pub record CarriedAll (d : Direction) (blocks : List Words) (signals : List ℕ) : Type 0 where
+  pub taken : d .taken ≡ blocks
+  pub accepted : d .accepted ≡ blocks
+  pub printed : d .printed ≡ signals
+  pub is-the-traffic : signals ≡ signalsIn blocks
+  pub confirmed : d .confirmed ≡ blocks
+
+-- The master sends ABC and then an over; the over's block, the answer CS3, βαβ and the slave's RQ RQ RQ are each damaged once.
+abbrev by-over-sent : List Event
+by-over-sent =
+    clear (text 1 2 3) ∷ clear none ∷ clear Offer.Over ∷ struck none ∷ clear none ∷ clear none ∷ faded none ∷ clear none ∷ clear none ∷
+    struck none ∷ clear none ∷ clear none ∷ struck none ∷ clear none ∷ clear none ∷ []
+
+-- The slave sends DEF, and the master offers an over as it accepts that; CS3 and the master's RQ are damaged.
+abbrev by-over-offered : List Event
+by-over-offered =
+    clear (text 4 5 6) ∷ clear Offer.Over ∷ faded none ∷ clear none ∷ clear none ∷ clear none ∷ faded none ∷ clear none ∷ clear none ∷ []
+
+-- The master sends figures G + and ? letters H: the over stands in two blocks of text. CS3 and βαβ are damaged.
+abbrev by-text : List Event
+by-text =
+    clear (text 30 7 26) ∷ clear none ∷ clear (text 2 29 8) ∷ clear none ∷ faded none ∷ clear none ∷ clear none ∷ struck none ∷ clear none ∷
+    clear none ∷ clear none ∷ []
+
+-- The slave sends JKL and ends; ααα is damaged once.
+abbrev by-end : List Event
+by-end = clear (text 10 11 12) ∷ clear none ∷ clear Offer.End ∷ struck none ∷ clear none ∷ clear none ∷ clear none ∷ []
+
+abbrev all-events : List Event
+all-events = by-over-sent ++ by-over-offered ++ by-text ++ by-end
+
+abbrev pub to-the-end : Run
+to-the-end = run-of start all-events
+
+pub harmless : AllHarmless to-the-end
+unfolding meaningOf AllHarmless
+harmless = harmless-if start all-events tt refl
+
+-- the blocks of the master, and their signals; the blocks of the slave, and theirs
+abbrev pub blocks : List Words
+blocks = signals3 1 2 3 ∷ words figures cross query ∷ signals3 30 7 26 ∷ signals3 2 29 8 ∷ []
+
+abbrev pub signals : List ℕ
+signals =
+    wordNo 1 ∷ wordNo 2 ∷ wordNo 3 ∷ figures ∷ cross ∷ query ∷ figures ∷ wordNo 7 ∷ cross ∷ query ∷ letters ∷ wordNo 8 ∷ []
+
+abbrev pub blocks′ : List Words
+blocks′ = signals3 4 5 6 ∷ signals3 10 11 12 ∷ []
+
+abbrev pub signals′ : List ℕ
+signals′ = wordNo 4 ∷ wordNo 5 ∷ wordNo 6 ∷ wordNo 10 ∷ wordNo 11 ∷ wordNo 12 ∷ []
+
+pub through-three-turns : CarriedAll (after to-the-end .from-hearer) blocks signals
+unfolding after through stepping sound done firstNot isBlock mayHold trafficOf meaningOf heardOf firstOf isWords listened trafficIn traffic signalsIn
+through-three-turns =
+    subst (λ (c : Circuit). CarriedAll (c .from-hearer) blocks signals) (sym (computed start all-events)) (record { taken = refl; accepted = refl; printed = refl; is-the-traffic = refl; confirmed = refl })
+
+pub and-back : CarriedAll (after to-the-end .from-sender) blocks′ signals′
+unfolding after through stepping sound done firstNot isBlock mayHold trafficOf meaningOf heardOf firstOf isWords listened trafficIn traffic signalsIn
+and-back =
+    subst (λ (c : Circuit). CarriedAll (c .from-sender) blocks′ signals′) (sym (computed start all-events)) (record { taken = refl; accepted = refl; printed = refl; is-the-traffic = refl; confirmed = refl })
+
+pub of-that-run : Demand3 (after to-the-end)
+of-that-run = demand3 to-the-end harmless
+
+pub ended : (after to-the-end .hearer .place ≡ StandBy) × (after to-the-end .sender .place ≡ StandBy)
+unfolding after through stepping sound done firstNot isBlock mayHold trafficOf meaningOf heardOf firstOf isWords listened trafficIn
+ended = subst (λ (c : Circuit). (c .hearer .place ≡ StandBy) × (c .sender .place ≡ StandBy)) (sym (computed start all-events)) (refl, refl)
+
+-- ABC is printed, and its answer is damaged 32 times: the master is Lost, and counts nothing as confirmed.
+abbrev pub unheard : ℕ → List Event → List Event
+unheard zero es = es
+unheard (suc n) es = faded none ∷ clear none ∷ unheard n es
+
+abbrev fade : List Event
+fade = clear (text 1 2 3) ∷ clear none ∷ unheard 31 (faded none ∷ [])
+
+abbrev pub timed-out : Run
+timed-out = run-of start fade
+
+pub fades-harmless : AllHarmless timed-out
+unfolding meaningOf AllHarmless
+fades-harmless = harmless-if start fade tt refl
+
+pub printed-and-lost : (after timed-out .sender .place ≡ Lost) × (after timed-out .from-sender .printed ≡ wordNo 1 ∷ wordNo 2 ∷ wordNo 3 ∷ []) × (after timed-out .from-sender .confirmed ≡ [])
+unfolding after through stepping sound done firstNot isBlock mayHold trafficOf meaningOf heardOf firstOf isWords listened trafficIn
+printed-and-lost =
+    subst (λ (c : Circuit). (c .sender .place ≡ Lost) × (c .from-sender .printed ≡ wordNo 1 ∷ wordNo 2 ∷ wordNo 3 ∷ []) × (c .from-sender .confirmed ≡ [])) (sym (computed start fade)) (refl, refl, refl)

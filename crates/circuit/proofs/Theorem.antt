@@ -1,0 +1,23 @@
+-- Demand 3, of every run of a fresh master and a fresh slave. Assumes nothing.
+use Rattle.circuit.specs.Circuit.{Circuit, after}
+use Rattle.circuit.specs.Demand.{Demand3, OfEveryRun}
+use Rattle.circuit.proofs.Link.{Linked}
+use Rattle.circuit.proofs.RunLaws.{linked, carried, never-both, no-cs3-heard}
+use Rattle.circuit.proofs.LiveLaws.{one-exchange, two-are-needed, two-exchanges}
+use Rattle.circuit.proofs.SoundLaws.{BothSound, answered-if, sound-run}
+
+of-linked : (c : Circuit) → Linked c → BothSound c → Demand3 c
+of-linked c l s =
+    record {
+      from-hearer = carried (l .owed-hearer) (c .from-hearer) (l .told-hearer);
+      from-sender = carried (l .owed-sender) (c .from-sender) (l .told-sender);
+      never-both-sending = never-both c l;
+      two-exchanges = two-exchanges c l;
+      one-exchange = one-exchange c l;
+      two-are-needed = two-are-needed c l;
+      opening-hears-no-cs3 = no-cs3-heard c l;
+      refuses-only-offers = answered-if c s;
+    }
+
+pub demand3 : OfEveryRun
+demand3 run a = of-linked (after run) (linked run a) (sound-run run)

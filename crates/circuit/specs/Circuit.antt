@@ -1,0 +1,200 @@
+-- A fresh master and a fresh slave of mode A, no third sender: every run of the two.
+--
+-- "its first burst is CS1": the slave's CS1 is on the way when the run starts. Bursts alternate, and each is heard once: the
+-- station that hears answers, and the other hears that next. An event is what happens to the burst on the way, word by word,
+-- and the offer of the station that hears it.
+--
+-- Of each direction four lists are read off the steps: the blocks taken from the offers of the one, and the blocks accepted by
+-- the other, the signals it printed, and the blocks that the one counts as confirmed. No station keeps any of them.
+-- Assumes nothing.
+use mathlib.Core.Path.{_≡_}
+use mathlib.Core.Bool.{Bool, true, false, _&&_}
+use mathlib.Core.List.{List, [], _∷_, _++_}
+use Prim.Native.Nat.{ℕ}
+use lib.Dec.{eqb}
+use Rattle.laws.specs.Choice.{if_then_else_}
+use Rattle.signals.specs.Meaning.{meaningOf, trafficOf}
+use Rattle.signals.specs.Numbers.{Answer, answered, refused}
+use Rattle.mode_a.specs.declared.Words.{Words}
+use Rattle.mode_a.specs.declared.Held.{Held}
+use Rattle.mode_a.specs.declared.Place.{Place}
+use Rattle.mode_a.specs.declared.Place.the-variants.{Sending, Turning, Opening, Ending, Receiving, Asking, StandBy, Lost}
+use Rattle.mode_a.specs.declared.Offer.{Offer}
+use Rattle.mode_a.specs.declared.Station.{Station}
+use Rattle.mode_a.specs.declared.Reply.{Reply}
+use Rattle.mode_a.specs.Station.{words, listOf, same, freshMaster, freshSlave, firstBurst}
+use Rattle.mode_a.specs.Heard.{First, Cs, Cs3, Rq, Else, firstOf, isBlock}
+use Rattle.mode_a.specs.Step.{stepping}
+
+-- what happens to a word on the way: it is kept, or another byte is heard in its place
+pub data Damage : Type 0 where
+  kept : Damage
+  hurt : ℕ → Damage
+
+abbrev pub arrives : Damage → ℕ → ℕ
+arrives kept w = w
+arrives (hurt b) w = b
+
+pub record Event : Type 0 where
+  pub first : Damage
+  pub second : Damage
+  pub third : Damage
+  pub offer : Offer
+
+abbrev pub heard : Event → Words → Words
+heard e w = words (arrives (e .first) (w .0)) (arrives (e .second) (w .1)) (arrives (e .third) (w .2))
+
+-- "provided damage, on silence too, never looks like one of the 35"
+abbrev pub NoSignal : Damage → Type 0
+NoSignal kept = Unit {0}
+NoSignal (hurt b) = meaningOf b ≡ 0
+
+abbrev pub Harmless : Event → Type 0
+Harmless e = NoSignal (e .first) × NoSignal (e .second) × NoSignal (e .third)
+
+-- nothing is damaged
+abbrev pub Whole : Event → Type 0
+Whole e = (e .first ≡ kept) × (e .second ≡ kept) × (e .third ≡ kept)
+
+-- a run: no event yet, or a run and the event after it
+infixl 60 _▷_
+pub data Run : Type 0 where
+  start : Run
+  _▷_ : Run → Event → Run
+
+-- the traffic signals of some words, and of some blocks
+unfoldable pub traffic : List ℕ → List ℕ
+traffic [] = []
+traffic (w ∷ ws) = if trafficOf w then w ∷ traffic ws else traffic ws
+
+unfoldable pub signalsIn : List Words → List ℕ
+signalsIn [] = []
+signalsIn (b ∷ bs) = traffic (listOf b) ++ signalsIn bs
+
+-- One direction: from the offers of one station to the print of the other.
+pub record Direction : Type 0 where
+  pub taken : List Words
+  pub accepted : List Words
+  pub printed : List ℕ
+  pub confirmed : List Words
+
+abbrev pub nothingYet : Direction
+nothingYet = record { taken = []; accepted = []; printed = []; confirmed = [] }
+
+-- "Text gives that block, nothing gives βββ, over gives figures + ?": an offer taken that has become a held block. An over
+-- taken at Receiving is no block, and end is none that is held.
+abbrev pub heldAt : Place → List Words
+heldAt (Sending h) = h .block ∷ []
+heldAt (Turning n) = []
+heldAt Opening = []
+heldAt (Ending e) = []
+heldAt (Receiving n) = []
+heldAt Asking = []
+heldAt StandBy = []
+heldAt Lost = []
+
+abbrev pub takenBy : Reply → List Words
+takenBy r = if r .taken then heldAt (r .station .place) else []
+
+-- "Receiving .. Three intact words, each traffic or β: accepted"
+abbrev pub isReceiving : Place → Bool
+isReceiving (Sending h) = false
+isReceiving (Turning n) = false
+isReceiving Opening = false
+isReceiving (Ending e) = false
+isReceiving (Receiving n) = true
+isReceiving Asking = false
+isReceiving StandBy = false
+isReceiving Lost = false
+
+abbrev pub acceptedBy : Station → Words → List Words
+acceptedBy s b = if isReceiving (s .place) && isBlock b then b ∷ [] else []
+
+-- "up to three printed signals": the words of the reply, without the zeros behind them
+abbrev pub withoutZeros : List ℕ → List ℕ
+withoutZeros [] = []
+withoutZeros (w ∷ ws) = if eqb w 0 then withoutZeros ws else w ∷ withoutZeros ws
+
+abbrev pub printedBy : Reply → List ℕ
+printedBy r = withoutZeros (listOf (r .printed))
+
+-- "Of the other number: the block is confirmed", "CS3: confirmed"
+abbrev pub confirmedAt : Held → First → List Words
+confirmedAt h (Cs n) = if same n (h .number) then [] else h .block ∷ []
+confirmedAt h Cs3 = h .block ∷ []
+confirmedAt h Rq = []
+confirmedAt h Else = []
+
+abbrev pub confirmedOf : Place → First → List Words
+confirmedOf (Sending h) f = confirmedAt h f
+confirmedOf (Turning n) f = []
+confirmedOf Opening f = []
+confirmedOf (Ending e) f = []
+confirmedOf (Receiving n) f = []
+confirmedOf Asking f = []
+confirmedOf StandBy f = []
+confirmedOf Lost f = []
+
+abbrev pub confirmedBy : Station → Words → List Words
+confirmedBy s b = confirmedOf (s .place) (firstOf (b .0))
+
+-- The circuit between two steps: the station that hears next, the station that has sent, and what it sent. Beside them the
+-- directions, from the offers of the one and of the other.
+pub record Circuit : Type 0 where
+  pub hearer : Station
+  pub sender : Station
+  pub burst : Words
+  pub from-hearer : Direction
+  pub from-sender : Direction
+
+-- "Take a fresh master and a fresh slave"; the slave's first burst is on the way
+abbrev pub fresh : Circuit
+fresh =
+    record { hearer = freshMaster; sender = freshSlave; burst = firstBurst; from-hearer = nothingYet; from-sender = nothingYet }
+
+-- the answer to an event, and the circuit after it: the station that heard is now the one that has sent. A refused event is no
+-- step.
+abbrev pub said : Circuit → Event → Answer Reply
+said c e = stepping (c .hearer) (heard e (c .burst)) (e .offer)
+
+abbrev pub answeredBy : Circuit → Words → Reply → Circuit
+answeredBy c b r =
+    record {
+      hearer = c .sender;
+      sender = r .station;
+      burst = r .sent;
+      from-hearer = record {
+        taken = c .from-sender .taken;
+        accepted = c .from-sender .accepted ++ acceptedBy (c .hearer) b;
+        printed = c .from-sender .printed ++ printedBy r;
+        confirmed = c .from-sender .confirmed;
+      };
+      from-sender = record {
+        taken = c .from-hearer .taken ++ takenBy r;
+        accepted = c .from-hearer .accepted;
+        printed = c .from-hearer .printed;
+        confirmed = c .from-hearer .confirmed ++ confirmedBy (c .hearer) b;
+      };
+    }
+
+abbrev pub goesOn : Circuit → Event → Answer Reply → Circuit
+goesOn c e (answered r) = answeredBy c (heard e (c .burst)) r
+goesOn c e (refused n v) = c
+
+abbrev pub next : Circuit → Event → Circuit
+next c e = goesOn c e (said c e)
+
+unfoldable pub after : Run → Circuit
+after start = fresh
+after (run ▷ e) = next (after run) e
+
+-- the runs that demand 3 speaks of: no damage looks like one of the 35. An offer that is refused is no step, so that runs with
+-- refused offers are among them.
+unfoldable pub AllHarmless : Run → Type 0
+AllHarmless start = Unit {0}
+AllHarmless (run ▷ e) = AllHarmless run × Harmless e
+
+-- the event is a step
+abbrev pub isAnswered : Answer Reply → Bool
+isAnswered (answered r) = true
+isAnswered (refused n v) = false

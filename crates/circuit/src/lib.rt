@@ -1,0 +1,1 @@
+// Two fresh stations of mode A on one circuit: specs/Circuit.antt, specs/Demand.antt and proofs/. No code.
