@@ -13,7 +13,8 @@ use Rattle.mode_a.specs.declared.Words.{Words}
 use Rattle.mode_a.specs.Station.{silence}
 use Rattle.mode_a.specs.Heard.{First, Else, firstOf, mayHold, isBlock, isWords}
 use Rattle.mode_a.proofs.HeardLaws.{first-else}
-use Rattle.circuit.specs.Circuit.{Damage, kept, hurt, arrives, NoSignal, Event, heard, Harmless}
+use Rattle.signals.specs.Damage.{Damage, kept, hurt, arrives, NoSignal}
+use Rattle.circuit.specs.Circuit.{Event, heard, Harmless}
 
 pub never : {A : Type 0} → true ≡ false → A
 never e = let z : _≡_ {A = ℕ} 0 1 = cc in absurd (omega arith)

@@ -25,7 +25,8 @@ use Rattle.mode_a.specs.declared.Reply.{Reply}
 use Rattle.mode_a.specs.Station.{silence, RQ×3, other}
 use Rattle.mode_a.specs.Heard.{First, Cs, Cs3, firstOf, mayHold, isBlock, heardOf}
 use Rattle.mode_a.specs.Step.{movedTo, sends, repeats, done}
-use Rattle.circuit.specs.Circuit.{arrives, Event, heard, Harmless, Whole, Circuit, said, confirmedAt, confirmedBy, acceptedBy, answeredBy, goesOn, isAnswered, next}
+use Rattle.signals.specs.Damage.{arrives}
+use Rattle.circuit.specs.Circuit.{Event, heard, Harmless, Whole, Circuit, said, confirmedAt, confirmedBy, acceptedBy, answeredBy, goesOn, isAnswered, next}
 use Rattle.circuit.specs.Demand.{Beginning, Exchanged, InTime, Confirms, AwaitsAtRq}
 use Rattle.circuit.proofs.DamageLaws.{never}
 use Rattle.circuit.proofs.Link.{Owed, unheard, heard as accepted, held, Link, s1-block, s1-rqs, s1-own, s1-rqs′, s1-other, s2-rqs, s2-cs3, s3-any, s3-cs3, s4-rq, s4-rqs, s5-asks, s5-rq, e1-alphas, e1-any, e2-any, e2-any′, e3-silence, e3-any, e4-any, Told, At, here, gone, Says, aloud, no-more, Linked}

@@ -29,7 +29,8 @@ use Rattle.mode_a.specs.Heard.{First, Cs, Cs3, Rq, Else, Heard, firstOf, mayHol
 use Rattle.mode_a.specs.Over.{query, cross, listened}
 use Rattle.mode_a.specs.Rows.{rowOf, sending, opening, asking, receiving}
 use Rattle.mode_a.specs.Step.{isOver, trafficIn, done, sound, stepping}
-use Rattle.circuit.specs.Circuit.{kept, hurt, Event, heard, Whole, Run, start, _▷_, Direction, Circuit, fresh, said, confirmedOf, answeredBy, next, after, AllHarmless, isAnswered}
+use Rattle.signals.specs.Damage.{kept, hurt}
+use Rattle.circuit.specs.Circuit.{Event, heard, Whole, Run, start, _▷_, Direction, Circuit, fresh, said, confirmedOf, answeredBy, next, after, AllHarmless, isAnswered}
 use Rattle.circuit.specs.Demand.{Carried, Exchanged, InTime, Confirms, Demand3}
 use Rattle.circuit.proofs.Computed.{run-of, through, computed}
 use Rattle.circuit.proofs.Runs.{clear, faded, struck, signals3, text, none, isHarmless, harmless-if}

@@ -18,7 +18,8 @@ use Rattle.mode_a.specs.Station.{words}
 use Rattle.mode_a.specs.Heard.{firstOf, mayHold, isBlock, isWords, heardOf}
 use Rattle.mode_a.specs.Over.{query, cross, listened}
 use Rattle.mode_a.specs.Step.{trafficIn, done, sound, stepping}
-use Rattle.circuit.specs.Circuit.{Damage, kept, hurt, NoSignal, Event, Harmless, Run, start, _▷_, traffic, signalsIn, Direction, Circuit, after, AllHarmless}
+use Rattle.signals.specs.Damage.{Damage, kept, hurt, NoSignal}
+use Rattle.circuit.specs.Circuit.{Event, Harmless, Run, start, _▷_, traffic, signalsIn, Direction, Circuit, after, AllHarmless}
 use Rattle.circuit.specs.Demand.{Demand3}
 use Rattle.circuit.proofs.DamageLaws.{and-left, and-right}
 use Rattle.circuit.proofs.Computed.{run-of, through, computed}

@@ -13,7 +13,8 @@ use mathlib.Core.List.{List, [], _∷_, _++_}
 use Prim.Native.Nat.{ℕ}
 use lib.Dec.{eqb}
 use Rattle.laws.specs.Choice.{if_then_else_}
-use Rattle.signals.specs.Meaning.{meaningOf, trafficOf}
+use Rattle.signals.specs.Meaning.{trafficOf}
+use Rattle.signals.specs.Damage.{Damage, kept, arrives, NoSignal}
 use Rattle.signals.specs.Numbers.{Answer, answered, refused}
 use Rattle.mode_a.specs.declared.Words.{Words}
 use Rattle.mode_a.specs.declared.Held.{Held}
@@ -26,15 +27,6 @@ use Rattle.mode_a.specs.Station.{words, listOf, same, freshMaster, freshSlave, 
 use Rattle.mode_a.specs.Heard.{First, Cs, Cs3, Rq, Else, firstOf, isBlock}
 use Rattle.mode_a.specs.Step.{stepping}
 
--- what happens to a word on the way: it is kept, or another byte is heard in its place
-pub data Damage : Type 0 where
-  kept : Damage
-  hurt : ℕ → Damage
-
-abbrev pub arrives : Damage → ℕ → ℕ
-arrives kept w = w
-arrives (hurt b) w = b
-
 pub record Event : Type 0 where
   pub first : Damage
   pub second : Damage
@@ -45,10 +37,6 @@ abbrev pub heard : Event → Words → Words
 heard e w = words (arrives (e .first) (w .0)) (arrives (e .second) (w .1)) (arrives (e .third) (w .2))
 
 -- "provided damage, on silence too, never looks like one of the 35"
-abbrev pub NoSignal : Damage → Type 0
-NoSignal kept = Unit {0}
-NoSignal (hurt b) = meaningOf b ≡ 0
-
 abbrev pub Harmless : Event → Type 0
 Harmless e = NoSignal (e .first) × NoSignal (e .second) × NoSignal (e .third)
 

@@ -15,7 +15,8 @@ use Rattle.mode_b.specs.declared.Hearing.{Hearing}
 use Rattle.mode_b.specs.declared.Hearing.the-variants.{Searching, InPhase}
 use Rattle.mode_b.specs.declared.Receiver.{Receiver}
 use Rattle.mode_b.specs.Receiver.{freshReceiver, heardDx, heardRx, runOf, searchedOn, searched, receiving, receiverAfter}
-use Rattle.copy.specs.Run.{hurt, Damage, NoSignal, heardFrom, listen, deafBefore, Unrefused, isAnswered}
+use Rattle.signals.specs.Damage.{hurt, NoSignal}
+use Rattle.copy.specs.Run.{Damages, heardFrom, listen, deafBefore, Unrefused, isAnswered}
 
 -- a search run is never over 3
 abbrev Sound : Hearing → Type 0
@@ -62,7 +63,7 @@ pub never-refused : (ws : List ℕ) → Unrefused freshReceiver ws
 never-refused ws = sound-unrefused ws freshReceiver (omega arith)
 
 -- to listen from a later slot on
-pub deaf-no-signal : (start : ℕ) (d : Damage) → ((k : ℕ) → NoSignal (d k)) → (k : ℕ) → NoSignal (deafBefore start d k)
+pub deaf-no-signal : (start : ℕ) (d : Damages) → ((k : ℕ) → NoSignal (d k)) → (k : ℕ) → NoSignal (deafBefore start d k)
 unfolding meaningOf
 deaf-no-signal start d n k = go (ltb k start)
   where
@@ -70,16 +71,16 @@ deaf-no-signal start d n k = go (ltb k start)
     go true = refl
     go false = n k
 
-hears-on : (start : ℕ) (d : Damage) (k : ℕ) → start ≤ k → (ws : List ℕ) → heardFrom (deafBefore start d) k ws ≡ heardFrom d k ws
+hears-on : (start : ℕ) (d : Damages) (k : ℕ) → start ≤ k → (ws : List ℕ) → heardFrom (deafBefore start d) k ws ≡ heardFrom d k ws
 unfolding heardFrom
 hears-on start d k h [] = refl
 hears-on start d k h (w ∷ ws) = rw (le-ltb k start h, hears-on start d (suc k) (omega arith) ws)
 
-late : (start : ℕ) (d : Damage) (n k : ℕ) → n + k ≡ start → (ws : List ℕ) → listen freshReceiver (heardFrom d start (drop n ws)) ≡ listen freshReceiver (heardFrom (deafBefore start d) k ws)
+late : (start : ℕ) (d : Damages) (n k : ℕ) → n + k ≡ start → (ws : List ℕ) → listen freshReceiver (heardFrom d start (drop n ws)) ≡ listen freshReceiver (heardFrom (deafBefore start d) k ws)
 unfolding listen heardFrom
 late start d zero k e ws = let h : k ≡ start = omega arith in rw (hears-on start d k (omega arith) ws, h)
 late start d (suc n) k e [] = refl
 late start d (suc n) k e (w ∷ ws) = rw (lt-ltb k start (omega arith)) (late start d n (suc k) (omega arith) ws)
 
-pub late-is-deaf : (start : ℕ) (d : Damage) (ws : List ℕ) → listen freshReceiver (heardFrom d start (drop start ws)) ≡ listen freshReceiver (heardFrom (deafBefore start d) 0 ws)
+pub late-is-deaf : (start : ℕ) (d : Damages) (ws : List ℕ) → listen freshReceiver (heardFrom d start (drop start ws)) ≡ listen freshReceiver (heardFrom (deafBefore start d) 0 ws)
 late-is-deaf start d ws = late start d start 0 (omega arith) ws

@@ -16,7 +16,8 @@ use Rattle.signals.specs.Units.{intactOf, onesOf}
 use Rattle.signals.specs.Meaning.{meaningOf, trafficOf, wordNo}
 use Rattle.mode_b.specs.Sender.{carriageReturn, lineFeed, withBreaks, positionsOf, slotsFrom, slotsOf}
 use Rattle.mode_b.specs.Receiver.{settled, settledAlone, heardDx, heardRx, errorMark}
-use Rattle.copy.specs.Run.{Hurt, kept, hurt, Damage, NoSignal, heardFrom, listen, copyFrom}
+use Rattle.signals.specs.Damage.{Damage, kept, hurt, NoSignal}
+use Rattle.copy.specs.Run.{Damages, heardFrom, listen, copyFrom}
 use Rattle.copy.specs.Premise.{Text, Clause, Holds, Needed}
 use Rattle.copy.specs.Premise.Clause.{from-0, phasing, copies, last, first-α, second-α, no-signal}
 
@@ -28,15 +29,15 @@ abbrev among : List ℕ → ℕ → Bool
 among [] k = false
 among (x ∷ xs) k = eqb k x || among xs k
 
-abbrev hurtAt : ℕ → List ℕ → Damage
+abbrev hurtAt : ℕ → List ℕ → Damages
 hurtAt v ks k = if among ks k then hurt v else kept
 
 -- Each clause as a test of such a broadcast of E. For the phasing signals the first four slots are tried.
-abbrev isKept : Hurt → Bool
+abbrev isKept : Damage → Bool
 isKept kept = true
 isKept (hurt v) = false
 
-abbrev hasCopy : Damage → ℕ → Bool
+abbrev hasCopy : Damages → ℕ → Bool
 hasCopy d t = isKept (d (2 * t)) || (ltb (2 * t + 5) 72 && isKept (d (2 * t + 5)))
 
 abbrev passes : Clause → ℕ → ℕ → List ℕ → Bool
@@ -48,11 +49,11 @@ passes first-α start v ks = isKept (hurtAt v ks 38)
 passes second-α start v ks = isKept (hurtAt v ks 40)
 passes no-signal start v ks = eqb (meaningOf v) 0
 
-is-kept : (h : Hurt) → T (isKept h) → h ≡ kept
+is-kept : (h : Damage) → T (isKept h) → h ≡ kept
 is-kept kept t = refl
 is-kept (hurt v) t = absurd t
 
-has-copy : (d : Damage) (t : ℕ) → T (hasCopy d t) → (d (2 * t) ≡ kept) ⊎ ((2 * t + 5 < 72) × (d (2 * t + 5) ≡ kept))
+has-copy : (d : Damages) (t : ℕ) → T (hasCopy d t) → (d (2 * t) ≡ kept) ⊎ ((2 * t + 5 < 72) × (d (2 * t + 5) ≡ kept))
 has-copy d t h = go (isKept (d (2 * t))) refl h
   where
     go : (b : Bool) → isKept (d (2 * t)) ≡ b → T (b || (ltb (2 * t + 5) 72 && isKept (d (2 * t + 5)))) → (d (2 * t) ≡ kept) ⊎ ((2 * t + 5 < 72) × (d (2 * t + 5) ≡ kept))
@@ -128,7 +129,7 @@ unfolding trafficOf meaningOf
 E-is-text = (refl, tt)
 
 -- what is printed in each run
-abbrev Prints : ℕ → Damage → List ℕ → Type 0
+abbrev Prints : ℕ → Damages → List ℕ → Type 0
 Prints start d printed = copyFrom start E d ≡ printed
 
 -- it listens from slot 29

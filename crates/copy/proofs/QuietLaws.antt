@@ -9,7 +9,8 @@ use Rattle.mode_b.specs.declared.Phasing.{Phasing}
 use Rattle.mode_b.specs.declared.Receiver.{Receiver}
 use Rattle.mode_b.specs.Sender.{Position, rxOf, slotsFrom}
 use Rattle.mode_b.specs.Receiver.{freshReceiver, receiving, receiverAfter}
-use Rattle.copy.specs.Run.{Hurt, kept, hurt, hear, Damage, NoSignal, printsOf, heardFrom, listen}
+use Rattle.signals.specs.Damage.{Damage, kept, hurt, arrives, NoSignal}
+use Rattle.copy.specs.Run.{Damages, printsOf, heardFrom, listen}
 use Rattle.copy.proofs.WordLaws.{mutilated, Traffic}
 use Rattle.copy.proofs.StepLaws.{seeking}
 
@@ -52,7 +53,7 @@ AllIdle (Position.signal w ∷ ps) = ⊥
 AllIdle (Position.idle ∷ ps) = AllIdle ps
 
 -- RQ is never heard in an RX slot, nor in any slot of α positions
-pub rx-not-rq : (p : Position) → Word p → (h : Hurt) → NoSignal h → eqb (hear h (rxOf p)) rq ≡ false
+pub rx-not-rq : (p : Position) → Word p → (h : Damage) → NoSignal h → eqb (arrives h (rxOf p)) rq ≡ false
 rx-not-rq Position.phasing s kept n = refl
 rx-not-rq (Position.signal w) s kept n = s .not-rq
 rx-not-rq Position.idle s kept n = refl
@@ -60,7 +61,7 @@ rx-not-rq Position.phasing s (hurt v) n = mutilated v n .not-rq
 rx-not-rq (Position.signal w) s (hurt v) n = mutilated v n .not-rq
 rx-not-rq Position.idle s (hurt v) n = mutilated v n .not-rq
 
-module _ (d : Damage) (good : (k : ℕ) → NoSignal (d k)) where
+module _ (d : Damages) (good : (k : ℕ) → NoSignal (d k)) where
   no-rq : (ps : List Position) → AllIdle ps → (k : ℕ) (before last : Position) → Word before → Word last → NoRq (heardFrom d k (slotsFrom before last ps))
   unfolding heardFrom slotsFrom
   no-rq [] i k before last b l = tt
@@ -70,5 +71,5 @@ module _ (d : Damage) (good : (k : ℕ) → NoSignal (d k)) where
       (rx-not-rq Position.idle tt (d k) (good k), (rx-not-rq before b (d (suc k)) (good (suc k)), no-rq ps i (suc (suc k)) last Position.idle l tt))
 
   -- the RX slot behind the α that ends reception, and what comes after it
-  pub quiet-behind : (j : ℕ) (before q r : Position) (ps : List Position) → Word before → Word q → Word r → AllIdle ps → listen freshReceiver (hear (d j) (rxOf before) ∷ heardFrom d (suc j) (slotsFrom q r ps)) ≡ []
+  pub quiet-behind : (j : ℕ) (before q r : Position) (ps : List Position) → Word before → Word q → Word r → AllIdle ps → listen freshReceiver (arrives (d j) (rxOf before) ∷ heardFrom d (suc j) (slotsFrom q r ps)) ≡ []
   quiet-behind j before q r ps s t u i = silent _ (rx-not-rq before s (d j) (good j), no-rq ps i (suc j) q r t u) freshReceiver (none Phasing.One)

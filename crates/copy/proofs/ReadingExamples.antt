@@ -11,7 +11,8 @@ use Rattle.signals.specs.Units.{intactOf, onesOf}
 use Rattle.signals.specs.Meaning.{meaningOf, trafficOf, wordNo}
 use Rattle.mode_b.specs.Sender.{carriageReturn, lineFeed, withBreaks, positionsOf, slotsFrom, slotsOf}
 use Rattle.mode_b.specs.Receiver.{settled, settledAlone, heardDx, heardRx, errorMark}
-use Rattle.copy.specs.Run.{kept, hurt, Damage, heardFrom, listen, copyFrom}
+use Rattle.signals.specs.Damage.{kept, hurt}
+use Rattle.copy.specs.Run.{Damages, heardFrom, listen, copyFrom}
 
 abbrev Es : List ℕ
 Es = replicate 94 (wordNo 5)
@@ -20,7 +21,7 @@ abbrev A : List ℕ
 A = carriageReturn ∷ lineFeed ∷ wordNo 1 ∷ []
 
 -- the slots from one on, n of them, are lost
-abbrev lostFrom : ℕ → ℕ → Damage
+abbrev lostFrom : ℕ → ℕ → Damages
 lostFrom k n j = if leb k j && ltb j (k + n) then hurt 0 else kept
 
 -- lost phasing: it comes into phase in the break, and prints from the next return on

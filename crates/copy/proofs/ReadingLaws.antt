@@ -14,7 +14,8 @@ use Rattle.mode_b.specs.declared.Phasing.{Phasing}
 use Rattle.mode_b.specs.declared.Receiver.{Receiver}
 use Rattle.mode_b.specs.Sender.{Position, dxOf, rxOf, carriageReturn, lineFeed, withBreaks, positionsOf, slotsFrom, slotsOf}
 use Rattle.mode_b.specs.Receiver.{Settled, settled, settledAlone, printedOf, printingAfter, begins, errorMark, heardRx, freshReceiver, receiving, receiverAfter}
-use Rattle.copy.specs.Run.{Hurt, kept, hurt, hear, Damage, NoSignal, one, printsOf, heardFrom, listen, copyFrom, deafBefore}
+use Rattle.signals.specs.Damage.{Damage, kept, hurt, arrives, NoSignal}
+use Rattle.copy.specs.Run.{Damages, one, printsOf, heardFrom, listen, copyFrom, deafBefore}
 use Rattle.copy.specs.Premise.{Text}
 use Rattle.copy.specs.Reading.{twoOn, fiveOn, damaged, intactα, endsBehind, lost, seen, seenFrom, Printed, nothing, here, behind, InOrder, done, passed, sent, marked}
 use Rattle.copy.proofs.WordLaws.{mutilated, Traffic}
@@ -46,13 +47,13 @@ rest Position.phasing ps o = o
 rest (Position.signal w) ps o = o .1
 rest Position.idle ps o = idle-ordered ps o
 
-idle-rest : (p : Position) (h : Hurt) (ps : List Position) → intactα p h ≡ true → Ordered (p ∷ ps) → AllIdle ps
+idle-rest : (p : Position) (h : Damage) (ps : List Position) → intactα p h ≡ true → Ordered (p ∷ ps) → AllIdle ps
 idle-rest Position.phasing h ps e o = absurd (false≢true e)
 idle-rest (Position.signal w) h ps e o = absurd (false≢true e)
 idle-rest Position.idle h ps e o = o
 
 -- α is heard in a DX slot exactly where it is sent there and kept
-alpha-heard : (p : Position) → Word p → (h : Hurt) → NoSignal h → eqb (hear h (dxOf p)) alpha ≡ intactα p h
+alpha-heard : (p : Position) → Word p → (h : Damage) → NoSignal h → eqb (arrives h (dxOf p)) alpha ≡ intactα p h
 alpha-heard Position.phasing s kept n = refl
 alpha-heard (Position.signal w) s kept n = s .not-alpha
 alpha-heard Position.idle s kept n = refl
@@ -61,7 +62,7 @@ alpha-heard (Position.signal w) s (hurt v) n = mutilated v n .not-alpha
 alpha-heard Position.idle s (hurt v) n = mutilated v n .not-alpha
 
 -- What a position prints once printing has begun, by its copies and by its DX alone.
-sees : (p : Position) → Word p → (a b : Hurt) → NoSignal a → NoSignal b → (one (printedOf true (settled (hear a (dxOf p)) (hear b (rxOf p)))) ≡ seen p (damaged a && damaged b)) × (printingAfter true (settled (hear a (dxOf p)) (hear b (rxOf p))) ≡ true)
+sees : (p : Position) → Word p → (a b : Damage) → NoSignal a → NoSignal b → (one (printedOf true (settled (arrives a (dxOf p)) (arrives b (rxOf p)))) ≡ seen p (damaged a && damaged b)) × (printingAfter true (settled (arrives a (dxOf p)) (arrives b (rxOf p))) ≡ true)
 sees Position.phasing s kept b m n = settles-phasing true kept b m n (inl refl)
 sees Position.phasing s (hurt u) kept m n = settles-phasing true (hurt u) kept m n (inr refl)
 sees Position.phasing s (hurt u) (hurt v) m n = rw (settles-error u v (mutilated u m) (mutilated v n)) (refl, refl)
@@ -73,7 +74,7 @@ sees Position.idle s kept b m n = settles-idle true kept b m n (inl refl)
 sees Position.idle s (hurt u) kept m n = settles-idle true (hurt u) kept m n (inr refl)
 sees Position.idle s (hurt u) (hurt v) m n = rw (settles-error u v (mutilated u m) (mutilated v n)) (refl, refl)
 
-sees-alone : (p : Position) → Word p → (a : Hurt) → NoSignal a → one (printedOf true (settledAlone (hear a (dxOf p)))) ≡ seen p (damaged a)
+sees-alone : (p : Position) → Word p → (a : Damage) → NoSignal a → one (printedOf true (settledAlone (arrives a (dxOf p)))) ≡ seen p (damaged a)
 unfolding settledAlone intactOf onesOf trafficOf meaningOf
 sees-alone Position.phasing s kept m = refl
 sees-alone (Position.signal w) s kept m = rw (s .is-intact, s .is-traffic, s .not-zero)
@@ -94,7 +95,7 @@ opening w s missing e = go (begins w) refl
     go true b = opens w refl b e (rw (b, s .is-traffic, s .not-zero)) b
     go false b = quiet (rw b (refl, refl))
 
-firsts : (p : Position) → Word p → (a b : Hurt) → NoSignal a → NoSignal b → First p (damaged a && damaged b) (settled (hear a (dxOf p)) (hear b (rxOf p)))
+firsts : (p : Position) → Word p → (a b : Damage) → NoSignal a → NoSignal b → First p (damaged a && damaged b) (settled (arrives a (dxOf p)) (arrives b (rxOf p)))
 firsts Position.phasing s a b m n = quiet (settles-unbegun a b m n)
 firsts (Position.signal w) s kept b m n = rw (settles-signal w s kept b m n (inl refl)) (opening w s false refl)
 firsts (Position.signal w) s (hurt u) kept m n = rw (settles-signal w s (hurt u) kept m n (inr refl)) (opening w s false refl)
@@ -103,7 +104,7 @@ firsts Position.idle s kept b m n = quiet (settles-idle false kept b m n (inl re
 firsts Position.idle s (hurt u) kept m n = quiet (settles-idle false (hurt u) kept m n (inr refl))
 firsts Position.idle s (hurt u) (hurt v) m n = rw (settles-error u v (mutilated u m) (mutilated v n)) (quiet (refl, refl))
 
-first-alone : (p : Position) → Word p → (a : Hurt) → NoSignal a → First p (damaged a) (settledAlone (hear a (dxOf p)))
+first-alone : (p : Position) → Word p → (a : Damage) → NoSignal a → First p (damaged a) (settledAlone (arrives a (dxOf p)))
 unfolding settledAlone intactOf onesOf
 first-alone Position.phasing s kept m = quiet (refl, refl)
 first-alone (Position.signal w) s kept m = rw (s .is-intact) (opening w s false refl)
@@ -112,7 +113,7 @@ first-alone Position.phasing s (hurt u) m = rw (mutilated u m .not-intact) (quie
 first-alone (Position.signal w) s (hurt u) m = rw (mutilated u m .not-intact) (quiet (refl, refl))
 first-alone Position.idle s (hurt u) m = rw (mutilated u m .not-intact) (quiet (refl, refl))
 
-counted : (p : Position) → Word p → (b : Hurt) → NoSignal b → Quiet false (settled rq (hear b (rxOf p)))
+counted : (p : Position) → Word p → (b : Damage) → NoSignal b → Quiet false (settled rq (arrives b (rxOf p)))
 counted Position.phasing s b n = settles-phasing false kept b tt n (inl refl)
 counted (Position.signal w) s kept n = settles-counted w s
 counted (Position.signal w) s (hurt v) n = settles-phasing false kept (hurt v) tt n (inl refl)
@@ -128,9 +129,9 @@ and-left : (a b : Bool) → a && b ≡ true → a ≡ true
 and-left true b e = refl
 and-left false b e = e
 
-module _ (d : Damage) (good : (k : ℕ) → NoSignal (d k)) where
+module _ (d : Damages) (good : (k : ℕ) → NoSignal (d k)) where
   -- the two DX slots behind position k end reception exactly where two α are kept there
-  ending : (k : ℕ) (q r : Position) → Word q → Word r → eqb (hear (d (twoOn (twoOn k))) (dxOf r)) alpha && eqb (hear (d (twoOn k)) (dxOf q)) alpha ≡ endsBehind d k q r
+  ending : (k : ℕ) (q r : Position) → Word q → Word r → eqb (arrives (d (twoOn (twoOn k))) (dxOf r)) alpha && eqb (arrives (d (twoOn k)) (dxOf q)) alpha ≡ endsBehind d k q r
   ending k q r s t = rw (alpha-heard r t (d (twoOn (twoOn k))) (good (twoOn (twoOn k))), alpha-heard q s (d (twoOn k)) (good (twoOn k))) (and-swap (intactα r (d (twoOn (twoOn k)))) (intactα q (d (twoOn k))))
 
   -- the words from slot k on, where the next position is p
@@ -143,15 +144,15 @@ module _ (d : Damage) (good : (k : ℕ) → NoSignal (d k)) where
   more-idle (Position.signal w) ps i = absurd i
   more-idle Position.idle ps i = i
 
-  after-end : (j : ℕ) (before q r : Position) (ps : List Position) (h : Hurt) → Word before → Ordered (q ∷ r ∷ ps) → intactα q h ≡ true → listen freshReceiver (hear (d j) (rxOf before) ∷ heardOn (suc j) q r ps) ≡ []
+  after-end : (j : ℕ) (before q r : Position) (ps : List Position) (h : Damage) → Word before → Ordered (q ∷ r ∷ ps) → intactα q h ≡ true → listen freshReceiver (arrives (d j) (rxOf before) ∷ heardOn (suc j) q r ps) ≡ []
   after-end j before q r ps h b o e =
       quiet-behind d good j before q r ps b (word q (r ∷ ps) o) (word r ps (rest q (r ∷ ps) o)) (more-idle r ps (idle-rest q h (r ∷ ps) e o))
 
   -- once printing has begun
-  begun : (ps : List Position) (k first : ℕ) (before last : Position) → Ordered (before ∷ last ∷ ps) → listen (inPhase first (hear (d k) (dxOf before)) (hear (d (twoOn k)) (dxOf last)) true true) (heardOn (twoOn (twoOn k)) before last ps) ≡ seenFrom d k (before ∷ last ∷ ps)
+  begun : (ps : List Position) (k first : ℕ) (before last : Position) → Ordered (before ∷ last ∷ ps) → listen (inPhase first (arrives (d k) (dxOf before)) (arrives (d (twoOn k)) (dxOf last)) true true) (heardOn (twoOn (twoOn k)) before last ps) ≡ seenFrom d k (before ∷ last ∷ ps)
   unfolding listen heardFrom slotsFrom seenFrom
   begun [] k first before last o = refl
-  begun (p ∷ ps) k first before last o = go (endsBehind d k last p) refl (begun ps (twoOn k) (hear (d k) (dxOf before)) last p (rest before (last ∷ p ∷ ps) o))
+  begun (p ∷ ps) k first before last o = go (endsBehind d k last p) refl (begun ps (twoOn k) (arrives (d k) (dxOf before)) last p (rest before (last ∷ p ∷ ps) o))
     where
       sb : Word before
       sb = word before (last ∷ p ∷ ps) o
@@ -159,16 +160,16 @@ module _ (d : Damage) (good : (k : ℕ) → NoSignal (d k)) where
       ol : Ordered (last ∷ p ∷ ps)
       ol = rest before (last ∷ p ∷ ps) o
 
-      test : eqb (hear (d (twoOn (twoOn k))) (dxOf p)) alpha && eqb (hear (d (twoOn k)) (dxOf last)) alpha ≡ endsBehind d k last p
+      test : eqb (arrives (d (twoOn (twoOn k))) (dxOf p)) alpha && eqb (arrives (d (twoOn k)) (dxOf last)) alpha ≡ endsBehind d k last p
       test = ending k last p (word last (p ∷ ps) ol) (word p ps (rest last (p ∷ ps) ol))
 
-      go : (t : Bool) → endsBehind d k last p ≡ t → listen (inPhase (hear (d k) (dxOf before)) (hear (d (twoOn k)) (dxOf last)) (hear (d (twoOn (twoOn k))) (dxOf p)) true true) (heardOn (twoOn (twoOn (twoOn k))) last p ps) ≡ seenFrom d (twoOn k) (last ∷ p ∷ ps) → listen (inPhase first (hear (d k) (dxOf before)) (hear (d (twoOn k)) (dxOf last)) true true) (heardOn (twoOn (twoOn k)) before last (p ∷ ps)) ≡ seen before (lost d k last p) ++ (if endsBehind d k last p then [] else seenFrom d (twoOn k) (last ∷ p ∷ ps))
+      go : (t : Bool) → endsBehind d k last p ≡ t → listen (inPhase (arrives (d k) (dxOf before)) (arrives (d (twoOn k)) (dxOf last)) (arrives (d (twoOn (twoOn k))) (dxOf p)) true true) (heardOn (twoOn (twoOn (twoOn k))) last p ps) ≡ seenFrom d (twoOn k) (last ∷ p ∷ ps) → listen (inPhase first (arrives (d k) (dxOf before)) (arrives (d (twoOn k)) (dxOf last)) true true) (heardOn (twoOn (twoOn k)) before last (p ∷ ps)) ≡ seen before (lost d k last p) ++ (if endsBehind d k last p then [] else seenFrom d (twoOn k) (last ∷ p ∷ ps))
       go true e ih =
-          dx-ends first (hear (d k) (dxOf before)) (hear (d (twoOn k)) (dxOf last)) true (hear (d (twoOn (twoOn k))) (dxOf p)) (hear (d (fiveOn k)) (rxOf before) ∷ heardOn (twoOn (twoOn (twoOn k))) last p ps) (test ∙ e)
+          dx-ends first (arrives (d k) (dxOf before)) (arrives (d (twoOn k)) (dxOf last)) true (arrives (d (twoOn (twoOn k))) (dxOf p)) (arrives (d (fiveOn k)) (rxOf before) ∷ heardOn (twoOn (twoOn (twoOn k))) last p ps) (test ∙ e)
           ∙ rw (after-end (fiveOn k) before last p ps (d (twoOn k)) sb ol (and-left (intactα last (d (twoOn k))) (intactα p (d (twoOn (twoOn k)))) e), sees-alone before sb (d k) (good k), e)
       go false e ih =
           let s = sees before sb (d k) (d (fiveOn k)) (good k) (good (fiveOn k)) in
-          waits-settles first (hear (d k) (dxOf before)) (hear (d (twoOn k)) (dxOf last)) true (hear (d (twoOn (twoOn k))) (dxOf p)) (hear (d (fiveOn k)) (rxOf before)) (heardOn (twoOn (twoOn (twoOn k))) last p ps) (test ∙ e) ∙ rw (s .0, s .1, e, ih)
+          waits-settles first (arrives (d k) (dxOf before)) (arrives (d (twoOn k)) (dxOf last)) true (arrives (d (twoOn (twoOn k))) (dxOf p)) (arrives (d (fiveOn k)) (rxOf before)) (heardOn (twoOn (twoOn (twoOn k))) last p ps) (test ∙ e) ∙ rw (s .0, s .1, e, ih)
 
   -- in phase, before printing has begun
   printed-as : {k : ℕ} {ps : List Position} {xs ys : List ℕ} → xs ≡ ys → Printed d k ps ys → Printed d k ps xs
@@ -180,10 +181,10 @@ module _ (d : Damage) (good : (k : ℕ) → NoSignal (d k)) where
       shown : seenFrom d k (Position.signal w ∷ q ∷ r ∷ ps) ≡ w ∷ (if endsBehind d k q r then [] else seenFrom d (twoOn k) (q ∷ r ∷ ps))
       shown = unfold seenFrom in (rw l)
 
-  unbegun : (ps : List Position) (k first : ℕ) (before last : Position) → Ordered (before ∷ last ∷ ps) → Printed d k (before ∷ last ∷ ps) (listen (inPhase first (hear (d k) (dxOf before)) (hear (d (twoOn k)) (dxOf last)) true false) (heardOn (twoOn (twoOn k)) before last ps))
+  unbegun : (ps : List Position) (k first : ℕ) (before last : Position) → Ordered (before ∷ last ∷ ps) → Printed d k (before ∷ last ∷ ps) (listen (inPhase first (arrives (d k) (dxOf before)) (arrives (d (twoOn k)) (dxOf last)) true false) (heardOn (twoOn (twoOn k)) before last ps))
   unfolding listen heardFrom slotsFrom
   unbegun [] k first before last o = nothing
-  unbegun (p ∷ ps) k first before last o = go (endsBehind d k last p) refl (unbegun ps (twoOn k) (hear (d k) (dxOf before)) last p (rest before (last ∷ p ∷ ps) o))
+  unbegun (p ∷ ps) k first before last o = go (endsBehind d k last p) refl (unbegun ps (twoOn k) (arrives (d k) (dxOf before)) last p (rest before (last ∷ p ∷ ps) o))
     where
       sb : Word before
       sb = word before (last ∷ p ∷ ps) o
@@ -191,38 +192,38 @@ module _ (d : Damage) (good : (k : ℕ) → NoSignal (d k)) where
       ol : Ordered (last ∷ p ∷ ps)
       ol = rest before (last ∷ p ∷ ps) o
 
-      test : eqb (hear (d (twoOn (twoOn k))) (dxOf p)) alpha && eqb (hear (d (twoOn k)) (dxOf last)) alpha ≡ endsBehind d k last p
+      test : eqb (arrives (d (twoOn (twoOn k))) (dxOf p)) alpha && eqb (arrives (d (twoOn k)) (dxOf last)) alpha ≡ endsBehind d k last p
       test = ending k last p (word last (p ∷ ps) ol) (word p ps (rest last (p ∷ ps) ol))
 
-      ended : endsBehind d k last p ≡ true → First before (damaged (d k)) (settledAlone (hear (d k) (dxOf before))) → Printed d k (before ∷ last ∷ p ∷ ps) (one (printedOf false (settledAlone (hear (d k) (dxOf before)))) ++ [])
+      ended : endsBehind d k last p ≡ true → First before (damaged (d k)) (settledAlone (arrives (d k) (dxOf before))) → Printed d k (before ∷ last ∷ p ∷ ps) (one (printedOf false (settledAlone (arrives (d k) (dxOf before)))) ++ [])
       ended e (quiet q) = rw (q .0) nothing
       ended e (opens w b c m x y) = rw x (printed-as (rw e) (opened k w before last p ps b c (rw e m)))
 
-      next : listen (inPhase (hear (d k) (dxOf before)) (hear (d (twoOn k)) (dxOf last)) (hear (d (twoOn (twoOn k))) (dxOf p)) true true) (heardOn (twoOn (twoOn (twoOn k))) last p ps) ≡ seenFrom d (twoOn k) (last ∷ p ∷ ps)
-      next = begun ps (twoOn k) (hear (d k) (dxOf before)) last p ol
+      next : listen (inPhase (arrives (d k) (dxOf before)) (arrives (d (twoOn k)) (dxOf last)) (arrives (d (twoOn (twoOn k))) (dxOf p)) true true) (heardOn (twoOn (twoOn (twoOn k))) last p ps) ≡ seenFrom d (twoOn k) (last ∷ p ∷ ps)
+      next = begun ps (twoOn k) (arrives (d k) (dxOf before)) last p ol
 
-      on : endsBehind d k last p ≡ false → Printed d (twoOn k) (last ∷ p ∷ ps) (listen (inPhase (hear (d k) (dxOf before)) (hear (d (twoOn k)) (dxOf last)) (hear (d (twoOn (twoOn k))) (dxOf p)) true false) (heardOn (twoOn (twoOn (twoOn k))) last p ps)) → First before (damaged (d k) && damaged (d (fiveOn k))) (settled (hear (d k) (dxOf before)) (hear (d (fiveOn k)) (rxOf before))) → Printed d k (before ∷ last ∷ p ∷ ps) (one (printedOf false (settled (hear (d k) (dxOf before)) (hear (d (fiveOn k)) (rxOf before)))) ++ listen (inPhase (hear (d k) (dxOf before)) (hear (d (twoOn k)) (dxOf last)) (hear (d (twoOn (twoOn k))) (dxOf p)) true (printingAfter false (settled (hear (d k) (dxOf before)) (hear (d (fiveOn k)) (rxOf before))))) (heardOn (twoOn (twoOn (twoOn k))) last p ps))
+      on : endsBehind d k last p ≡ false → Printed d (twoOn k) (last ∷ p ∷ ps) (listen (inPhase (arrives (d k) (dxOf before)) (arrives (d (twoOn k)) (dxOf last)) (arrives (d (twoOn (twoOn k))) (dxOf p)) true false) (heardOn (twoOn (twoOn (twoOn k))) last p ps)) → First before (damaged (d k) && damaged (d (fiveOn k))) (settled (arrives (d k) (dxOf before)) (arrives (d (fiveOn k)) (rxOf before))) → Printed d k (before ∷ last ∷ p ∷ ps) (one (printedOf false (settled (arrives (d k) (dxOf before)) (arrives (d (fiveOn k)) (rxOf before)))) ++ listen (inPhase (arrives (d k) (dxOf before)) (arrives (d (twoOn k)) (dxOf last)) (arrives (d (twoOn (twoOn k))) (dxOf p)) true (printingAfter false (settled (arrives (d k) (dxOf before)) (arrives (d (fiveOn k)) (rxOf before))))) (heardOn (twoOn (twoOn (twoOn k))) last p ps))
       on e ih (quiet q) = rw (q .0, q .1) (behind ih)
       on e ih (opens w b c m x y) = rw (x, y, next) (printed-as (rw e) (opened k w before last p ps b c (rw e m)))
 
-      go : (t : Bool) → endsBehind d k last p ≡ t → Printed d (twoOn k) (last ∷ p ∷ ps) (listen (inPhase (hear (d k) (dxOf before)) (hear (d (twoOn k)) (dxOf last)) (hear (d (twoOn (twoOn k))) (dxOf p)) true false) (heardOn (twoOn (twoOn (twoOn k))) last p ps)) → Printed d k (before ∷ last ∷ p ∷ ps) (listen (inPhase first (hear (d k) (dxOf before)) (hear (d (twoOn k)) (dxOf last)) true false) (heardOn (twoOn (twoOn k)) before last (p ∷ ps)))
+      go : (t : Bool) → endsBehind d k last p ≡ t → Printed d (twoOn k) (last ∷ p ∷ ps) (listen (inPhase (arrives (d k) (dxOf before)) (arrives (d (twoOn k)) (dxOf last)) (arrives (d (twoOn (twoOn k))) (dxOf p)) true false) (heardOn (twoOn (twoOn (twoOn k))) last p ps)) → Printed d k (before ∷ last ∷ p ∷ ps) (listen (inPhase first (arrives (d k) (dxOf before)) (arrives (d (twoOn k)) (dxOf last)) true false) (heardOn (twoOn (twoOn k)) before last (p ∷ ps)))
       go true e ih =
           printed-as
-          (dx-ends first (hear (d k) (dxOf before)) (hear (d (twoOn k)) (dxOf last)) false (hear (d (twoOn (twoOn k))) (dxOf p)) (hear (d (fiveOn k)) (rxOf before) ∷ heardOn (twoOn (twoOn (twoOn k))) last p ps) (test ∙ e)
+          (dx-ends first (arrives (d k) (dxOf before)) (arrives (d (twoOn k)) (dxOf last)) false (arrives (d (twoOn (twoOn k))) (dxOf p)) (arrives (d (fiveOn k)) (rxOf before) ∷ heardOn (twoOn (twoOn (twoOn k))) last p ps) (test ∙ e)
           ∙ rw (after-end (fiveOn k) before last p ps (d (twoOn k)) sb ol (and-left (intactα last (d (twoOn k))) (intactα p (d (twoOn (twoOn k)))) e)))
           (ended e (first-alone before sb (d k) (good k)))
       go false e ih =
           printed-as
-          (waits-settles first (hear (d k) (dxOf before)) (hear (d (twoOn k)) (dxOf last)) false (hear (d (twoOn (twoOn k))) (dxOf p)) (hear (d (fiveOn k)) (rxOf before)) (heardOn (twoOn (twoOn (twoOn k))) last p ps) (test ∙ e))
+          (waits-settles first (arrives (d k) (dxOf before)) (arrives (d (twoOn k)) (dxOf last)) false (arrives (d (twoOn (twoOn k))) (dxOf p)) (arrives (d (fiveOn k)) (rxOf before)) (heardOn (twoOn (twoOn (twoOn k))) last p ps) (test ∙ e))
           (on e ih (firsts before sb (d k) (d (fiveOn k)) (good k) (good (fiveOn k))))
 
   -- just in phase: one waiting word, or both, taken for RQ
-  one-counted : (ps : List Position) (k first : ℕ) (before last : Position) → Word before → Ordered (last ∷ ps) → Printed d k (last ∷ ps) (listen (inPhase first rq (hear (d k) (dxOf last)) true false) (heardOn (twoOn k) before last ps))
+  one-counted : (ps : List Position) (k first : ℕ) (before last : Position) → Word before → Ordered (last ∷ ps) → Printed d k (last ∷ ps) (listen (inPhase first rq (arrives (d k) (dxOf last)) true false) (heardOn (twoOn k) before last ps))
   unfolding listen heardFrom slotsFrom
   one-counted [] k first before last s o = nothing
   one-counted (p ∷ ps) k first before last s o = go (intactα last (d k) && intactα p (d (twoOn k))) refl
     where
-      test : eqb (hear (d (twoOn k)) (dxOf p)) alpha && eqb (hear (d k) (dxOf last)) alpha ≡ intactα last (d k) && intactα p (d (twoOn k))
+      test : eqb (arrives (d (twoOn k)) (dxOf p)) alpha && eqb (arrives (d k) (dxOf last)) alpha ≡ intactα last (d k) && intactα p (d (twoOn k))
       test =
           rw (alpha-heard p (word p ps (rest last (p ∷ ps) o)) (d (twoOn k)) (good (twoOn k)), alpha-heard last (word last (p ∷ ps) o) (d k) (good k))
           (and-swap (intactα p (d (twoOn k))) (intactα last (d k)))
@@ -230,16 +231,16 @@ module _ (d : Damage) (good : (k : ℕ) → NoSignal (d k)) where
       alone : one (printedOf false (settledAlone rq)) ≡ []
       alone = unfold settledAlone intactOf onesOf in refl
 
-      go : (t : Bool) → intactα last (d k) && intactα p (d (twoOn k)) ≡ t → Printed d k (last ∷ p ∷ ps) (listen (inPhase first rq (hear (d k) (dxOf last)) true false) (heardOn (twoOn k) before last (p ∷ ps)))
+      go : (t : Bool) → intactα last (d k) && intactα p (d (twoOn k)) ≡ t → Printed d k (last ∷ p ∷ ps) (listen (inPhase first rq (arrives (d k) (dxOf last)) true false) (heardOn (twoOn k) before last (p ∷ ps)))
       go true e =
           printed-as
-          (dx-ends first rq (hear (d k) (dxOf last)) false (hear (d (twoOn k)) (dxOf p)) (hear (d (suc (twoOn k))) (rxOf before) ∷ heardOn (twoOn (twoOn k)) last p ps) (test ∙ e)
+          (dx-ends first rq (arrives (d k) (dxOf last)) false (arrives (d (twoOn k)) (dxOf p)) (arrives (d (suc (twoOn k))) (rxOf before) ∷ heardOn (twoOn (twoOn k)) last p ps) (test ∙ e)
           ∙ rw (after-end (suc (twoOn k)) before last p ps (d k) s o (and-left (intactα last (d k)) (intactα p (d (twoOn k))) e), alone))
           nothing
       go false e =
           let q = counted before s (d (suc (twoOn k))) (good (suc (twoOn k))) in
           printed-as
-          (waits-settles first rq (hear (d k) (dxOf last)) false (hear (d (twoOn k)) (dxOf p)) (hear (d (suc (twoOn k))) (rxOf before)) (heardOn (twoOn (twoOn k)) last p ps) (test ∙ e))
+          (waits-settles first rq (arrives (d k) (dxOf last)) false (arrives (d (twoOn k)) (dxOf p)) (arrives (d (suc (twoOn k))) (rxOf before)) (heardOn (twoOn (twoOn k)) last p ps) (test ∙ e))
           (rw (q .0, q .1) (unbegun ps k rq last p o))
 
   both-counted : (ps : List Position) (k first : ℕ) (before last : Position) → Word before → Word last → Ordered ps → Printed d k ps (listen (inPhase first rq rq true false) (heardOn k before last ps))
@@ -248,7 +249,7 @@ module _ (d : Damage) (good : (k : ℕ) → NoSignal (d k)) where
   both-counted (p ∷ ps) k first before last s t o =
       let q = counted before s (d (suc k)) (good (suc k)) in
       printed-as
-      (waits-settles first rq rq false (hear (d k) (dxOf p)) (hear (d (suc k)) (rxOf before)) (heardOn (twoOn k) last p ps) (and-swap (eqb (hear (d k) (dxOf p)) alpha) false))
+      (waits-settles first rq rq false (arrives (d k) (dxOf p)) (arrives (d (suc k)) (rxOf before)) (heardOn (twoOn k) last p ps) (and-swap (eqb (arrives (d k) (dxOf p)) alpha) false))
       (rw (q .0, q .1) (one-counted ps k rq last p t o))
 
 -- The search. Before a DX slot the last signal of a run is α: RQ is never heard in an RX slot.
@@ -308,13 +309,13 @@ in-rx v n q r s = go (eqb v alpha) refl r s
     go false e r rx2 = rw (e, n) (refl, seeks (dx0 Phasing.One))
     go false e r rx3 = rw (e, n) (refl, seeks (dx0 Phasing.One))
 
-module _ (d : Damage) (good : (k : ℕ) → NoSignal (d k)) where
+module _ (d : Damages) (good : (k : ℕ) → NoSignal (d k)) where
   searching : (ps : List Position) (k : ℕ) (before last : Position) (r : Receiver) → Word before → Word last → Ordered ps → BeforeDx r → Printed d k ps (listen r (heardFrom d k (slotsFrom before last ps)))
   unfolding listen heardFrom slotsFrom
   searching [] k before last r s t o b = nothing
   searching (p ∷ ps) k before last r s t o b =
-      let x = in-dx (hear (d k) (dxOf p)) r b in
-      let y = in-rx (hear (d (suc k)) (rxOf before)) (rx-not-rq before s (d (suc k)) (good (suc k))) (counted before s (d (suc k)) (good (suc k))) _ (x .1) in
+      let x = in-dx (arrives (d k) (dxOf p)) r b in
+      let y = in-rx (arrives (d (suc k)) (rxOf before)) (rx-not-rq before s (d (suc k)) (good (suc k))) (counted before s (d (suc k)) (good (suc k))) _ (x .1) in
       rw (x .0, y .0) (behind (go _ (y .1) (λ r b. searching ps (twoOn k) last p r t (word p ps o) (rest p ps o) b)))
     where
       go : (r : Receiver) → Next r → ((r : Receiver) → BeforeDx r → Printed d (twoOn k) ps (listen r (heardFrom d (twoOn k) (slotsFrom last p ps)))) → Printed d (twoOn k) ps (listen r (heardFrom d (twoOn k) (slotsFrom last p ps)))
@@ -334,12 +335,12 @@ ordered text t = sent-ordered (withBreaks 0 (carriageReturn ∷ lineFeed ∷ tex
 
 -- No wrong signal: under any damage that is never one of the 35 a fresh receiver prints nothing, or what is to be seen from a return
 -- or line feed on.
-pub no-wrong-signal : (text : List ℕ) (d : Damage) → Text text → ((k : ℕ) → NoSignal (d k)) → Printed d 0 (positionsOf text) (copyFrom 0 text d)
+pub no-wrong-signal : (text : List ℕ) (d : Damages) → Text text → ((k : ℕ) → NoSignal (d k)) → Printed d 0 (positionsOf text) (copyFrom 0 text d)
 unfolding slotsOf
 no-wrong-signal text d t n = searching d n (positionsOf text) 0 Position.idle Position.idle freshReceiver tt tt (ordered text t) (dx0 Phasing.One)
 
 -- So each signal printed is the one sent at a position, or an error mark, and the positions come in order, none twice.
-seen-in-order : (d : Damage) (ps : List Position) (k : ℕ) → InOrder ps (seenFrom d k ps)
+seen-in-order : (d : Damages) (ps : List Position) (k : ℕ) → InOrder ps (seenFrom d k ps)
 unfolding seenFrom
 seen-in-order d [] k = done
 seen-in-order d (p ∷ []) k = done
@@ -356,12 +357,12 @@ seen-in-order d (p ∷ q ∷ r ∷ ps) k = go (endsBehind d k q r) (lost d k q r
     go true b i = one-more p b [] done
     go false b i = one-more p b _ i
 
-printed-in-order : {d : Damage} {k : ℕ} {ps : List Position} {xs : List ℕ} → Printed d k ps xs → InOrder ps xs
+printed-in-order : {d : Damages} {k : ℕ} {ps : List Position} {xs : List ℕ} → Printed d k ps xs → InOrder ps xs
 printed-in-order nothing = done
 printed-in-order {d} {k} (here {w = w} {q = q} {r = r} {ps = qs} b l) = seen-in-order d (Position.signal w ∷ q ∷ r ∷ qs) k
 printed-in-order (behind p) = passed (printed-in-order p)
 
-pub in-order : (text : List ℕ) (d : Damage) → Text text → ((k : ℕ) → NoSignal (d k)) → InOrder (positionsOf text) (copyFrom 0 text d)
+pub in-order : (text : List ℕ) (d : Damages) → Text text → ((k : ℕ) → NoSignal (d k)) → InOrder (positionsOf text) (copyFrom 0 text d)
 in-order text d t n = printed-in-order (no-wrong-signal text d t n)
 
 -- Once printing has begun a settled position is an error mark exactly where it is lost.
@@ -378,5 +379,5 @@ marked-exactly p s false = ((λ e. absurd (other p s e)), (λ e. absurd (false�
     other Position.idle s e = let z : _≡_ {A = ℕ} 0 1 = cc in omega arith
 
 -- From a later slot on. What the receiver does not listen to is lost to it.
-pub no-wrong-signal-from : (start : ℕ) (text : List ℕ) (d : Damage) → Text text → ((k : ℕ) → NoSignal (d k)) → Printed (deafBefore start d) 0 (positionsOf text) (copyFrom start text d)
+pub no-wrong-signal-from : (start : ℕ) (text : List ℕ) (d : Damages) → Text text → ((k : ℕ) → NoSignal (d k)) → Printed (deafBefore start d) 0 (positionsOf text) (copyFrom start text d)
 no-wrong-signal-from start text d t n = rw (late-is-deaf start d (slotsOf text)) (no-wrong-signal text (deafBefore start d) t (deaf-no-signal start d n))

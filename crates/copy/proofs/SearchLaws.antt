@@ -11,7 +11,8 @@ use Rattle.signals.specs.Meaning.{alpha, rq}
 use Rattle.mode_b.specs.declared.Phasing.{Phasing}
 use Rattle.mode_b.specs.declared.Receiver.{Receiver}
 use Rattle.mode_b.specs.Receiver.{heardDx, heardRx, receiving, receiverAfter, freshReceiver}
-use Rattle.copy.specs.Run.{Hurt, kept, hurt, hear, Damage, NoSignal, printsOf, heardFrom, listen}
+use Rattle.signals.specs.Damage.{Damage, kept, hurt, arrives, NoSignal}
+use Rattle.copy.specs.Run.{Damages, printsOf, heardFrom, listen}
 use Rattle.copy.specs.Premise.{FourIntact}
 use Rattle.copy.proofs.WordLaws.{mutilated}
 use Rattle.copy.proofs.StepLaws.{inPhase, seeking, settles-unbegun}
@@ -52,13 +53,13 @@ pub data At (dx : Bool) : Stage → Receiver → Type 0 where
   at1 : At dx s1 (seeking 1 (lastOf dx))
   at2 : At dx s2 (seeking 2 (lastOf dx))
   at3 : At dx s3 (seeking 3 (lastOf dx))
-  at4 : (a b c : Hurt) → NoSignal a → NoSignal b → NoSignal c → At dx s4 (inPhase (hear a rq) (hear b rq) (hear c rq) dx false)
+  at4 : (a b c : Damage) → NoSignal a → NoSignal b → NoSignal c → At dx s4 (inPhase (arrives a rq) (arrives b rq) (arrives c rq) dx false)
 
 -- one slot: nothing is printed, and the receiver is at a stage
 abbrev Moves : Bool → Stage → Receiver → ℕ → Type 0
 Moves dx m r v = (printsOf (receiving r v) ≡ []) × At dx m (receiverAfter r (receiving r v))
 
-settling : (dx : Bool) (a b c : Hurt) → NoSignal a → NoSignal b → NoSignal c → (h : Hurt) → NoSignal h → Moves (not dx) s4 (inPhase (hear a rq) (hear b rq) (hear c rq) dx false) (hear h (phasingWord dx))
+settling : (dx : Bool) (a b c : Damage) → NoSignal a → NoSignal b → NoSignal c → (h : Damage) → NoSignal h → Moves (not dx) s4 (inPhase (arrives a rq) (arrives b rq) (arrives c rq) dx false) (arrives h (phasingWord dx))
 unfolding heardDx heardRx
 settling true a b c l m n kept o = (refl, at4 b c kept m n tt)
 settling true a b c l m n (hurt v) o = rw (mutilated v o .not-alpha) (refl, at4 b c (hurt v) m n o)
@@ -85,19 +86,19 @@ loses v n dx m r at2 = rw (mutilated v n .not-alpha, mutilated v n .not-rq) (ref
 loses v n dx m r at3 = rw (mutilated v n .not-alpha, mutilated v n .not-rq) (refl, at0 Phasing.One)
 loses v n dx m r (at4 a b c x y z) = settling dx a b c x y z (hurt v) n
 
-abbrev moved : Hurt → Stage → Stage
+abbrev moved : Damage → Stage → Stage
 moved kept m = on m
 moved (hurt v) m = off m
 
-slot : (h : Hurt) → NoSignal h → (dx : Bool) (m : Stage) (r : Receiver) → At dx m r → Moves (not dx) (moved h m) r (hear h (phasingWord dx))
+slot : (h : Damage) → NoSignal h → (dx : Bool) (m : Stage) (r : Receiver) → At dx m r → Moves (not dx) (moved h m) r (arrives h (phasingWord dx))
 slot kept n dx m r a = keeps dx m r a
 slot (hurt v) n dx m r a = loses v n dx m r a
 
-stays : (h : Hurt) → NoSignal h → (dx : Bool) (r : Receiver) → At dx s4 r → Moves (not dx) s4 r (hear h (phasingWord dx))
+stays : (h : Damage) → NoSignal h → (dx : Bool) (r : Receiver) → At dx s4 r → Moves (not dx) s4 r (arrives h (phasingWord dx))
 stays kept n dx r a = keeps dx s4 r a
 stays (hurt v) n dx r a = loses v n dx s4 r a
 
-slot-kept : (h : Hurt) → h ≡ kept → (dx : Bool) (m : Stage) (r : Receiver) → At dx m r → Moves (not dx) (on m) r (hear h (phasingWord dx))
+slot-kept : (h : Damage) → h ≡ kept → (dx : Bool) (m : Stage) (r : Receiver) → At dx m r → Moves (not dx) (on m) r (arrives h (phasingWord dx))
 slot-kept h e dx m r a = rw e (keeps dx m r a)
 
 -- n slots on: the number of the slot, and whether it is a DX slot
@@ -110,13 +111,13 @@ turned zero dx = dx
 turned (suc n) dx = turned n (not dx)
 
 -- a receiver that hears n such slots, and then the rest, prints what a receiver in phase prints of the rest
-pub record Locks (d : Damage) (dx : Bool) (n k : ℕ) (r : Receiver) (rest : List ℕ) : Type 0 where
+pub record Locks (d : Damages) (dx : Bool) (n k : ℕ) (r : Receiver) (rest : List ℕ) : Type 0 where
   pub after : Receiver
   pub in-phase : At (turned n dx) s4 after
   pub same : listen r (heardFrom d k (alternate dx n rest)) ≡ listen after (heardFrom d (later n k) rest)
 
-module _ (d : Damage) (good : (k : ℕ) → NoSignal (d k)) (rest : List ℕ) where
-  next : (dx : Bool) (n k : ℕ) (r : Receiver) → printsOf (receiving r (hear (d k) (phasingWord dx))) ≡ [] → Locks d (not dx) n (suc k) (receiverAfter r (receiving r (hear (d k) (phasingWord dx)))) rest → Locks d dx (suc n) k r rest
+module _ (d : Damages) (good : (k : ℕ) → NoSignal (d k)) (rest : List ℕ) where
+  next : (dx : Bool) (n k : ℕ) (r : Receiver) → printsOf (receiving r (arrives (d k) (phasingWord dx))) ≡ [] → Locks d (not dx) n (suc k) (receiverAfter r (receiving r (arrives (d k) (phasingWord dx)))) rest → Locks d dx (suc n) k r rest
   unfolding listen heardFrom alternate
   next dx n k r e l = record { after = l .after; in-phase = l .in-phase; same = rw e (l .same) }
 
@@ -173,12 +174,12 @@ dropped m (suc s) zero dx rest e = absurd (omega arith)
 dropped m (suc s) (suc n) dx rest e = dropped m s n (not dx) rest (omega arith)
 
 -- a fresh receiver that listens from a slot on is in phase before the text
-pub record Locked (d : Damage) (start : ℕ) (rest : List ℕ) : Type 0 where
+pub record Locked (d : Damages) (start : ℕ) (rest : List ℕ) : Type 0 where
   pub after : Receiver
   pub in-phase : At true s4 after
   pub same : listen freshReceiver (heardFrom d start (drop start (alternate true 32 rest))) ≡ listen after (heardFrom d 32 rest)
 
-pub locked : (d : Damage) → ((k : ℕ) → NoSignal (d k)) → (start : ℕ) → FourIntact start d → (rest : List ℕ) → Locked d start rest
+pub locked : (d : Damages) → ((k : ℕ) → NoSignal (d k)) → (start : ℕ) → FourIntact start d → (rest : List ℕ) → Locked d start rest
 locked d good start f rest =
     let l = locks d good rest (f .first - start) (32 - start) (turned start true) s0 start freshReceiver (at0 Phasing.One) (omega arith) heard in
     record {

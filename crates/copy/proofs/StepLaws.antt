@@ -14,7 +14,8 @@ use Rattle.mode_b.specs.declared.Hearing.the-variants.{Searching, InPhase}
 use Rattle.mode_b.specs.declared.Receiver.{Receiver}
 use Rattle.mode_b.specs.Sender.{Position, dxOf}
 use Rattle.mode_b.specs.Receiver.{Settled, settled, settledAlone, printedOf, printingAfter, heardDx, heardRx, freshReceiver}
-use Rattle.copy.specs.Run.{Hurt, kept, hurt, hear, NoSignal, one, listen}
+use Rattle.signals.specs.Damage.{Damage, kept, hurt, arrives, NoSignal}
+use Rattle.copy.specs.Run.{one, listen}
 use Rattle.copy.proofs.WordLaws.{Mutilated, mutilated, Traffic, eqb-self}
 
 abbrev pub inPhase : ℕ → ℕ → ℕ → Bool → Bool → Receiver
@@ -48,7 +49,7 @@ Sent (Position.signal w) = Traffic w
 Sent Position.idle = ⊥
 
 -- its DX is never heard as α
-pub not-alpha : (p : Position) → Sent p → (h : Hurt) → NoSignal h → eqb (hear h (dxOf p)) alpha ≡ false
+pub not-alpha : (p : Position) → Sent p → (h : Damage) → NoSignal h → eqb (arrives h (dxOf p)) alpha ≡ false
 not-alpha Position.phasing s kept n = refl
 not-alpha (Position.signal w) s kept n = s .not-alpha
 not-alpha Position.idle s kept n = absurd s
@@ -60,7 +61,7 @@ pub hurt-kept : (v : ℕ) → hurt v ≡ kept → ⊥
 hurt-kept v e = let z : _≡_ {A = ℕ} 0 1 = cc in omega arith
 
 -- what a position is settled to, by what happened to its copies
-pub settles-signal : (w : ℕ) → Traffic w → (a b : Hurt) → NoSignal a → NoSignal b → (a ≡ kept) ⊎ (b ≡ kept) → settled (hear a w) (hear b w) ≡ Settled.signal w
+pub settles-signal : (w : ℕ) → Traffic w → (a b : Damage) → NoSignal a → NoSignal b → (a ≡ kept) ⊎ (b ≡ kept) → settled (arrives a w) (arrives b w) ≡ Settled.signal w
 unfolding settled
 settles-signal w t kept kept m n c = rw (t .is-intact, eqb-self w)
 settles-signal w t kept (hurt v) m n c = rw (t .is-intact, mutilated v n .not-intact, t .not-rq)
@@ -87,7 +88,7 @@ quiet-alpha true = (refl, refl)
 quiet-alpha false = (refl, refl)
 
 -- a phasing position with an intact copy, and an α position
-pub settles-phasing : (printing : Bool) (a b : Hurt) → NoSignal a → NoSignal b → (a ≡ kept) ⊎ (b ≡ kept) → Quiet printing (settled (hear a rq) (hear b alpha))
+pub settles-phasing : (printing : Bool) (a b : Damage) → NoSignal a → NoSignal b → (a ≡ kept) ⊎ (b ≡ kept) → Quiet printing (settled (arrives a rq) (arrives b alpha))
 unfolding settled intactOf onesOf
 settles-phasing printing kept kept m n c = (refl, refl)
 settles-phasing printing kept (hurt v) m n c = rw (mutilated v n .not-alpha, mutilated v n .not-intact) (quiet-rq printing)
@@ -95,7 +96,7 @@ settles-phasing printing (hurt u) kept m n c = rw (mutilated u m .not-intact, mu
 settles-phasing printing (hurt u) (hurt v) m n (inl e) = absurd (hurt-kept u e)
 settles-phasing printing (hurt u) (hurt v) m n (inr e) = absurd (hurt-kept v e)
 
-pub settles-idle : (printing : Bool) (a b : Hurt) → NoSignal a → NoSignal b → (a ≡ kept) ⊎ (b ≡ kept) → Quiet printing (settled (hear a alpha) (hear b alpha))
+pub settles-idle : (printing : Bool) (a b : Damage) → NoSignal a → NoSignal b → (a ≡ kept) ⊎ (b ≡ kept) → Quiet printing (settled (arrives a alpha) (arrives b alpha))
 unfolding settled intactOf onesOf
 settles-idle printing kept kept m n c = quiet-alpha printing
 settles-idle printing kept (hurt v) m n c = rw (mutilated v n .not-intact) (quiet-alpha printing)
@@ -104,7 +105,7 @@ settles-idle printing (hurt u) (hurt v) m n (inl e) = absurd (hurt-kept u e)
 settles-idle printing (hurt u) (hurt v) m n (inr e) = absurd (hurt-kept v e)
 
 -- before printing has begun an error prints nothing either
-pub settles-unbegun : (a b : Hurt) → NoSignal a → NoSignal b → Quiet false (settled (hear a rq) (hear b alpha))
+pub settles-unbegun : (a b : Damage) → NoSignal a → NoSignal b → Quiet false (settled (arrives a rq) (arrives b alpha))
 settles-unbegun kept b m n = settles-phasing false kept b m n (inl refl)
 settles-unbegun (hurt u) kept m n = settles-phasing false (hurt u) kept m n (inr refl)
 settles-unbegun (hurt u) (hurt v) m n = rw (settles-error u v (mutilated u m) (mutilated v n)) (refl, refl)

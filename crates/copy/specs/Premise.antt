@@ -10,7 +10,8 @@ use Prim.Native.Nat.{ℕ, _+_, _*_, _≤_, _<_}
 use lib.ListN.{length}
 use Rattle.signals.specs.Meaning.{trafficOf}
 use Rattle.mode_b.specs.Sender.{carriageReturn, lineFeed, withBreaks, positionsOf, slotsOf}
-use Rattle.copy.specs.Run.{kept, Damage, NoSignal, copyFrom}
+use Rattle.signals.specs.Damage.{kept, NoSignal}
+use Rattle.copy.specs.Run.{Damages, copyFrom}
 
 -- a text for mode B: every word is traffic
 abbrev pub Text : List ℕ → Type 0
@@ -33,17 +34,17 @@ abbrev pub lastTraffic : List ℕ → ℕ
 lastTraffic text = 15 + spanOf text
 
 -- Whether a copy is intact is read off the damage. A copy due after the last slot is not sent.
-abbrev pub DxIntact : Damage → ℕ → Type 0
+abbrev pub DxIntact : Damages → ℕ → Type 0
 DxIntact d t = d (dxSlot t) ≡ kept
 
-abbrev pub RxIntact : Damage → ℕ → Type 0
+abbrev pub RxIntact : Damages → ℕ → Type 0
 RxIntact d t = d (rxSlot t) ≡ kept
 
 abbrev pub RxSent : List ℕ → ℕ → Type 0
 RxSent text t = rxSlot t < length (slotsOf text)
 
 -- four successive phasing signals before the text, the first of them in slot `start` or a later one
-pub record FourIntact (start : ℕ) (d : Damage) : Type 0 where
+pub record FourIntact (start : ℕ) (d : Damages) : Type 0 where
   pub first : ℕ
   pub heard : start ≤ first
   pub before-text : first + 3 < 32
@@ -59,7 +60,7 @@ pub record FourIntact (start : ℕ) (d : Damage) : Type 0 where
 pub data Clause : Type 0 where
   from-0 phasing copies last first-α second-α no-signal : Clause
 
-abbrev pub Holds : Clause → ℕ → List ℕ → Damage → Type 0
+abbrev pub Holds : Clause → ℕ → List ℕ → Damages → Type 0
 Holds from-0 start text d = start ≡ 0
 Holds phasing start text d = FourIntact 0 d
 Holds copies start text d = (t : ℕ) → t < length (positionsOf text) → DxIntact d t ⊎ (RxSent text t × RxIntact d t)
@@ -69,12 +70,12 @@ Holds second-α start text d = DxIntact d (lastTraffic text + 2)
 Holds no-signal start text d = (k : ℕ) → NoSignal (d k)
 
 -- the premise of 01
-abbrev pub Premise : ℕ → List ℕ → Damage → Type 0
+abbrev pub Premise : ℕ → List ℕ → Damages → Type 0
 Premise start text d = (c : Clause) → Holds c start text d
 
 -- A weaker one: the receiver may listen from a later slot, if the four are still to come, and a copy is needed only from the return
 -- to the last traffic position, breaks included.
-pub record LatePremise (start : ℕ) (text : List ℕ) (d : Damage) : Type 0 where
+pub record LatePremise (start : ℕ) (text : List ℕ) (d : Damages) : Type 0 where
   pub phasing : FourIntact start d
   pub copies : (t : ℕ) → 16 ≤ t → t ≤ lastTraffic text → DxIntact d t ⊎ RxIntact d t
   pub last : DxIntact d (lastTraffic text)
@@ -83,14 +84,14 @@ pub record LatePremise (start : ℕ) (text : List ℕ) (d : Damage) : Type 0 whe
   pub no-signal : (k : ℕ) → NoSignal (d k)
 
 -- "return, line feed and the text printed, nothing else"
-abbrev pub PerfectCopy : ℕ → List ℕ → Damage → Type 0
+abbrev pub PerfectCopy : ℕ → List ℕ → Damages → Type 0
 PerfectCopy start text d = copyFrom start text d ≡ carriageReturn ∷ lineFeed ∷ text
 
 -- A clause is needed: there is a broadcast for which every other clause holds, and the copy is not perfect.
 pub record Needed (c : Clause) : Type 0 where
   pub start : ℕ
   pub text : List ℕ
-  pub damage : Damage
+  pub damage : Damages
   pub is-text : Text text
   pub others : (o : Clause) → (o ≡ c → ⊥) → Holds o start text damage
   pub fails : PerfectCopy start text damage → ⊥

@@ -17,7 +17,8 @@ use Prim.Native.Nat.{ℕ, suc}
 use Rattle.laws.specs.Choice.{if_then_else_}
 use Rattle.mode_b.specs.Sender.{Position, phasing, signal, idle}
 use Rattle.mode_b.specs.Receiver.{begins, errorMark}
-use Rattle.copy.specs.Run.{Hurt, kept, hurt, Damage}
+use Rattle.signals.specs.Damage.{Damage, kept, hurt}
+use Rattle.copy.specs.Run.{Damages}
 
 -- A position is known by its DX slot, 2t: its RX slot is five on, and the DX slot of the next position two on.
 abbrev pub twoOn : ℕ → ℕ
@@ -26,22 +27,22 @@ twoOn k = suc (suc k)
 abbrev pub fiveOn : ℕ → ℕ
 fiveOn k = suc (suc (suc (suc (suc k))))
 
-abbrev pub damaged : Hurt → Bool
+abbrev pub damaged : Damage → Bool
 damaged kept = false
 damaged (hurt v) = true
 
 -- "Two successive intact α in DX end reception at once": the two positions behind the one in slot k are α, and their DX is intact
-abbrev pub intactα : Position → Hurt → Bool
+abbrev pub intactα : Position → Damage → Bool
 intactα phasing h = false
 intactα (signal w) h = false
 intactα idle kept = true
 intactα idle (hurt v) = false
 
-abbrev pub endsBehind : Damage → ℕ → Position → Position → Bool
+abbrev pub endsBehind : Damages → ℕ → Position → Position → Bool
 endsBehind d k q r = intactα q (d (twoOn k)) && intactα r (d (twoOn (twoOn k)))
 
 -- A position is lost where both copies are damaged, or where it is settled by its DX alone and that is damaged.
-abbrev pub lost : Damage → ℕ → Position → Position → Bool
+abbrev pub lost : Damages → ℕ → Position → Position → Bool
 lost d k q r = if endsBehind d k q r then damaged (d k) else damaged (d k) && damaged (d (fiveOn k))
 
 -- once printing has begun: a lost position is an error mark, another prints its traffic signal, if it has one
@@ -56,7 +57,7 @@ seen p false = trafficIn p
 
 -- The positions from slot k on, once printing has begun. The RX of the last two is not sent, and they are not settled. Behind the end
 -- nothing more is printed.
-unfoldable pub seenFrom : Damage → ℕ → List Position → List ℕ
+unfoldable pub seenFrom : Damages → ℕ → List Position → List ℕ
 seenFrom d k [] = []
 seenFrom d k (p ∷ []) = []
 seenFrom d k (p ∷ q ∷ []) = []
@@ -65,7 +66,7 @@ seenFrom d k (p ∷ q ∷ r ∷ ps) =
 
 -- What is printed of the positions from slot k on: nothing, or what is seen from a return or line feed on that is not lost.
 -- From which one is not said here: that depends on where the receiver comes into phase (R-112).
-pub data Printed (d : Damage) : ℕ → List Position → List ℕ → Type 0 where
+pub data Printed (d : Damages) : ℕ → List Position → List ℕ → Type 0 where
   nothing : {k : ℕ} {ps : List Position} → Printed d k ps []
   here : {k w : ℕ} {q r : Position} {ps : List Position} → begins w ≡ true → lost d k q r ≡ false → Printed d k (signal w ∷ q ∷ r ∷ ps) (seenFrom d k (signal w ∷ q ∷ r ∷ ps))
   behind : {k : ℕ} {p : Position} {ps : List Position} {xs : List ℕ} → Printed d (twoOn k) ps xs → Printed d k (p ∷ ps) xs

@@ -7,35 +7,21 @@ use Prim.Native.Nat.{ℕ, suc}
 use lib.Dec.{eqb, ltb}
 use lib.ListN.{drop}
 use Rattle.laws.specs.Choice.{if_then_else_}
-use Rattle.signals.specs.Meaning.{meaningOf}
+use Rattle.signals.specs.Damage.{Damage, hurt, arrives}
 use Rattle.signals.specs.Numbers.{Answer, answered, refused}
 use Rattle.mode_b.specs.declared.Receiver.{Receiver}
 use Rattle.mode_b.specs.declared.Heard.{Heard}
 use Rattle.mode_b.specs.Sender.{slotsOf}
 use Rattle.mode_b.specs.Receiver.{freshReceiver, receiving, receiverAfter}
 
--- what happens to the word of a slot on its way: it is kept, or another word is heard in its place
-pub data Hurt : Type 0 where
-  kept : Hurt
-  hurt : (word : ℕ) → Hurt
-
-abbrev pub hear : Hurt → ℕ → ℕ
-hear kept w = w
-hear (hurt v) w = v
-
 -- the damage to a broadcast, by slots
-abbrev pub Damage : Type 0
-Damage = ℕ → Hurt
-
--- "damage is never one of the 35": what is heard in place of a word has no meaning
-abbrev pub NoSignal : Hurt → Type 0
-NoSignal kept = Unit {0}
-NoSignal (hurt v) = meaningOf v ≡ 0
+abbrev pub Damages : Type 0
+Damages = ℕ → Damage
 
 -- the words heard, of those sent in slot k and after
-unfoldable pub heardFrom : Damage → ℕ → List ℕ → List ℕ
+unfoldable pub heardFrom : Damages → ℕ → List ℕ → List ℕ
 heardFrom d k [] = []
-heardFrom d k (w ∷ ws) = hear (d k) w ∷ heardFrom d (suc k) ws
+heardFrom d k (w ∷ ws) = arrives (d k) w ∷ heardFrom d (suc k) ws
 
 -- the signals that a receiver prints of a list of words. A step prints one signal or none; a refused one prints nothing and leaves
 -- the receiver as it was.
@@ -60,9 +46,9 @@ Unrefused r [] = Unit {0}
 Unrefused r (w ∷ ws) = (isAnswered (receiving r w) ≡ true) × Unrefused (receiverAfter r (receiving r w)) ws
 
 -- what a fresh receiver prints that listens from a slot on
-abbrev pub copyFrom : ℕ → List ℕ → Damage → List ℕ
+abbrev pub copyFrom : ℕ → List ℕ → Damages → List ℕ
 copyFrom start text d = listen freshReceiver (heardFrom d start (drop start (slotsOf text)))
 
 -- A receiver that listens from a later slot hears what one hears to which every slot before is lost.
-abbrev pub deafBefore : ℕ → Damage → Damage
+abbrev pub deafBefore : ℕ → Damages → Damages
 deafBefore start d k = if ltb k start then hurt 0 else d k
