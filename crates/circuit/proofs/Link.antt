@@ -25,6 +25,7 @@ use Rattle.mode_a.specs.declared.Held.{Held}
 use Rattle.mode_a.specs.declared.Ended.{Ended}
 use Rattle.mode_a.specs.declared.Place.{Place}
 use Rattle.mode_a.specs.declared.Place.the-variants.{Sending, Turning, Opening, Ending, Receiving, Asking, StandBy, Lost}
+use Rattle.mode_a.specs.declared.Offer.{Offer}
 use Rattle.mode_a.specs.declared.Station.{Station}
 use Rattle.mode_a.specs.declared.Reply.{Reply}
 use Rattle.mode_a.specs.Station.{listOf, single, silence, ααα, RQ×3, other, asksFor}
@@ -114,12 +115,12 @@ pub data Came : Owed → Owed → List Words → List ℕ → Type 0 where
   came : {b : Words} → Came (unheard b) (heard b) (b ∷ []) (traffic (listOf b))
 
 -- the circuit after the reply of a station that heard: linked again
-pub record After (ox op : Owed) (p : Place) (r : Reply) (confirmed accepted : List Words) : Type 0 where
+pub record After (o : Offer) (ox op : Owed) (p : Place) (r : Reply) (confirmed accepted : List Words) : Type 0 where
   pub place : Place
   pub word : Words
   pub ox′ : Owed
   pub op′ : Owed
   pub link : Link p place word op′ ox′
   pub says : Says (r .station) place (r .sent) word
-  pub sends : Moved ox ox′ (takenBy r) confirmed
+  pub sends : Moved ox ox′ (takenBy o r) confirmed
   pub hears : Came op op′ accepted (printedBy r)

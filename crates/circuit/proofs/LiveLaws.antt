@@ -235,7 +235,7 @@ module _
 
 -- one exchange, by its two replies
 abbrev step : Circuit → Event → Reply → Circuit
-step c e r = answeredBy c (heard e (c .burst)) r
+step c e r = answeredBy c (e .offer) (heard e (c .burst)) r
 
 linked-step : (c : Circuit) (e : Event) (r : Reply) → Linked c → Whole e → said c e ≡ answered r → Linked (step c e r)
 linked-step c e r l w i = subst (λ (a : Answer Reply). Linked (goesOn c e a)) i (linked-next c e (whole-harmless e w) l)

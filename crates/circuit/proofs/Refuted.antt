@@ -1,16 +1,17 @@
 -- Demand 3 cannot be said more strongly, and it tells wrong readings of the rows from 01's: each stronger sentence, and the same
 -- sentence over each wrong reading, is refuted by a computed run.
 --     no-…             what more might be said
---     …-is-caught      a wrong reading, and the sentence that a run over it breaks
+--     …-is-caught      a wrong reading, and the sentence that a run over it breaks; over 01's rows both sentences hold
+--                      (right-carries, right-exchanges)
 -- Assumes nothing.
-use mathlib.Core.Path.{_≡_, refl, ap, subst}
+use mathlib.Core.Path.{_≡_, refl, ap, subst, sym, _∙_}
 use mathlib.Core.Bool.{Bool, true, false}
 use mathlib.Core.List.{List, [], _∷_, _++_}
 use Prim.Native.Nat.{ℕ, zero, suc, _≤_}
 use native.Mathlib.Omega.{arith}
 use lib.ListN.{length, getD}
 use Rattle.laws.specs.Choice.{if_then_else_}
-use Rattle.signals.specs.Meaning.{meaningOf, trafficOf, wordNo, figures, cs3}
+use Rattle.signals.specs.Meaning.{meaningOf, trafficOf, wordNo, figures, cs2, cs3}
 use Rattle.signals.specs.Numbers.{Answer, answered, refused, firstNot}
 use Rattle.mode_a.specs.declared.Role.{Role}
 use Rattle.mode_a.specs.declared.Number.{Number}
@@ -24,14 +25,16 @@ use Rattle.mode_a.specs.declared.Offer.{Offer}
 use Rattle.mode_a.specs.declared.Doing.{Doing}
 use Rattle.mode_a.specs.declared.Doing.the-variants.{Repeats, Goes, Takes, Opens}
 use Rattle.mode_a.specs.declared.Reply.{Reply}
-use Rattle.mode_a.specs.Station.{words, single, silence, other}
+use Rattle.mode_a.specs.Station.{words, single, silence, RQ×3, other}
 use Rattle.mode_a.specs.Heard.{First, Cs, Cs3, Rq, Else, Heard, firstOf, mayHold, isBlock, isWords, heardOf}
 use Rattle.mode_a.specs.Over.{query, cross, listened}
 use Rattle.mode_a.specs.Rows.{rowOf, sending, opening, asking, receiving}
 use Rattle.mode_a.specs.Step.{isOver, trafficIn, done, sound, stepping}
 use Rattle.signals.specs.Damage.{kept, hurt}
-use Rattle.circuit.specs.Circuit.{Event, heard, Whole, Run, start, _▷_, Direction, Circuit, fresh, said, confirmedOf, answeredBy, next, after, AllHarmless, isAnswered}
+use Rattle.circuit.specs.Circuit.{Event, heard, Whole, Run, start, _▷_, Direction, Circuit, fresh, said, answeredBy, goesOn, next, after, AllHarmless, isAnswered}
 use Rattle.circuit.specs.Demand.{Carried, Exchanged, InTime, Confirms, Demand3}
+use Rattle.circuit.proofs.RunLaws.{answers}
+use Rattle.circuit.proofs.Theorem.{demand3}
 use Rattle.circuit.proofs.Computed.{run-of, through, computed}
 use Rattle.circuit.proofs.Runs.{clear, faded, struck, signals3, text, none, isHarmless, harmless-if}
 
@@ -104,10 +107,18 @@ no-untimed claim =
     let b = f (record { number = One; block = signals3 1 2 3 }) _ _ refl (exchanged (through next fresh almost-lost) refl refl) (exchanged (exchange (through next fresh almost-lost)) refl refl) in
     not-none (length (b .rest)) (ap length (b .splits))
 
--- damage that looks like a signal: D is heard for A
+-- damage that looks like a signal: the block is damaged, and CS2 is heard for the CS1 that asks for it again, so that what nobody
+-- printed is confirmed
 no-disguised-damage : ((run : Run) → Demand3 (after run)) → ⊥
 unfolding after stepping sound done firstNot isBlock mayHold trafficOf meaningOf heardOf firstOf isWords listened trafficIn
 no-disguised-damage claim =
+    let b = claim (start ▷ clear (text 1 2 3) ▷ struck none ▷ record { first = hurt cs2; second = kept; third = kept; offer = none }) .from-sender .confirmed-is-printed in
+    not-none (length (b .rest)) (ap length (b .splits))
+
+-- and D is heard for A
+no-disguised-text : ((run : Run) → Demand3 (after run)) → ⊥
+unfolding after stepping sound done firstNot isBlock mayHold trafficOf meaningOf heardOf firstOf isWords listened trafficIn
+no-disguised-text claim =
     let b = claim (start ▷ clear (text 1 2 3) ▷ record { first = hurt (wordNo 4); second = kept; third = kept; offer = none }) .from-hearer .accepts-a-beginning in
     let n : wordNo 1 ≡ wordNo 4 = ap (λ (l : List Words). getD l 0 silence .0) (b .splits) in
     omega arith
@@ -196,50 +207,71 @@ right-rows r Asking h o = refl
 right-rows r StandBy h o = refl
 right-rows r Lost h o = refl
 
--- the step of a circuit whose stations follow some rows
+-- the step of a circuit whose stations follow some rows, and refuse what 01's stations refuse
 abbrev stepBy : (Role → Place → Heard → Offer → Doing) → Circuit → Event → Circuit
 stepBy rows c e =
     let b = heard e (c .burst) in
-    answeredBy c b (done (c .hearer) b (e .offer) (rows (c .hearer .role) (c .hearer .place) (heardOf b) (e .offer)))
+    if isAnswered (said c e) then
+    answeredBy c (e .offer) b (done (c .hearer) b (e .offer) (rows (c .hearer .role) (c .hearer .place) (heardOf b) (e .offer)))
+    else c
 
 -- the sentences, over any step
 abbrev CarriesBy : (Circuit → Event → Circuit) → Type 0
 CarriesBy step = (es : List Event) → isHarmless es ≡ true → Carried (through step fresh es .from-hearer) × Carried (through step fresh es .from-sender)
 
-abbrev TwoAfter : Held → Circuit → Circuit → Type 0
-TwoAfter h c d = InTime d → Confirms h c d
+abbrev Undamaged : (Circuit → Event → Circuit) → Circuit → Event → Event → Type 0
+Undamaged step c d e = Whole d × Whole e × (isAnswered (said c d) ≡ true) × (isAnswered (said (step c d) e) ≡ true)
+
+abbrev TwoFrom : (Circuit → Event → Circuit) → Circuit → Type 0
+TwoFrom step c =
+    (h : Held) (e₁ e₂ e₃ e₄ : Event) → c .sender .place ≡ Sending h → Undamaged step c e₁ e₂ → Undamaged step (step (step c e₁) e₂) e₃ e₄ → InTime (step (step (step (step c e₁) e₂) e₃) e₄) → Confirms h c (step (step (step (step c e₁) e₂) e₃) e₄)
 
 abbrev TwoExchangesBy : (Circuit → Event → Circuit) → Type 0
-TwoExchangesBy step =
-    (es : List Event) → isHarmless es ≡ true → (h : Held) (e₁ e₂ e₃ e₄ : Event) → through step fresh es .sender .place ≡ Sending h → Whole e₁ → Whole e₂ → Whole e₃ → Whole e₄ → TwoAfter h (through step fresh es) (step (step (step (step (through step fresh es) e₁) e₂) e₃) e₄)
+TwoExchangesBy step = (es : List Event) → isHarmless es ≡ true → TwoFrom step (through step fresh es)
 
--- "CS3: confirmed" overlooked: the step is 01's, and what is heard as CS3 is not counted
-abbrev numberOnly : First → First
-numberOnly (Cs n) = Cs n
-numberOnly Cs3 = Else
-numberOnly Rq = Rq
-numberOnly Else = Else
+-- Over 01's rows both hold.
+abbrev rightStep : Circuit → Event → Circuit
+rightStep = stepBy (rowsWith sending opening receives asking)
 
-abbrev uncounted : Circuit → Event → Circuit
-uncounted c e =
-    record {
-      hearer = next c e .hearer;
-      sender = next c e .sender;
-      burst = next c e .burst;
-      from-hearer = next c e .from-hearer;
-      from-sender = record {
-        taken = next c e .from-sender .taken;
-        accepted = next c e .from-sender .accepted;
-        printed = next c e .from-sender .printed;
-        confirmed = c .from-hearer .confirmed ++ confirmedOf (c .hearer .place) (numberOnly (firstOf (heard e (c .burst) .0)));
-      };
-    }
+right-step : (c : Circuit) (e : Event) → rightStep c e ≡ next c e
+right-step c e = go (said c e) refl
+  where
+    go : (a : Answer Reply) → said c e ≡ a → (if isAnswered a then answeredBy c (e .offer) (heard e (c .burst)) (done (c .hearer) (heard e (c .burst)) (e .offer) (rowsWith sending opening receives asking (c .hearer .role) (c .hearer .place) (heardOf (heard e (c .burst))) (e .offer))) else c) ≡ goesOn c e a
+    go (answered r) i =
+        let y = answers (c .hearer) (heard e (c .burst)) (e .offer) r i in
+        ap (answeredBy c (e .offer) (heard e (c .burst))) (ap (done (c .hearer) (heard e (c .burst)) (e .offer)) (right-rows (c .hearer .role) (c .hearer .place) (heardOf (heard e (c .burst))) (e .offer)) ∙ sym (y .is-done))
+    go (refused n v) i = refl
 
-cs3-not-counted-is-caught : TwoExchangesBy uncounted → ⊥
+right-steps : rightStep ≡ next
+right-steps i c e = right-step c e i
+
+of-run : (es : List Event) → isHarmless es ≡ true → Demand3 (through next fresh es)
+unfolding after AllHarmless
+of-run es h = subst Demand3 (computed start es) (demand3 (run-of start es) (harmless-if start es tt h))
+
+right-carries : CarriesBy rightStep
+right-carries = subst CarriesBy (sym right-steps) (λ es h. (of-run es h .from-hearer, of-run es h .from-sender))
+
+exchanged-by : (c : Circuit) (d e : Event) → Undamaged next c d e → Exchanged c (next (next c d) e)
+exchanged-by c d e (w, v, i, j) =
+    record { out = d; back = e; whole = w; whole-back = v; answered = i; answered-back = j; leads = refl }
+
+right-exchanges : TwoExchangesBy rightStep
+right-exchanges =
+    subst TwoExchangesBy (sym right-steps) (λ es h k e₁ e₂ e₃ e₄ p u v t. of-run es h .two-exchanges k _ _ p (exchanged-by (through next fresh es) e₁ e₂ u) (exchanged-by (next (next (through next fresh es) e₁) e₂) e₃ e₄ v) t)
+
+-- "CS3: confirmed" read as all else: the block is confirmed again and again
+abbrev ignoresCs3 : Held → First → Doing
+ignoresCs3 h (Cs n) = sending h (Cs n)
+ignoresCs3 h Cs3 = Repeats RQ×3
+ignoresCs3 h Rq = sending h Rq
+ignoresCs3 h Else = sending h Else
+
+cs3-ignored-is-caught : CarriesBy (stepBy (rowsWith ignoresCs3 opening receives asking)) → ⊥
 unfolding through stepping sound done firstNot isBlock mayHold trafficOf meaningOf heardOf firstOf isWords listened trafficIn
-cs3-not-counted-is-caught claim =
-    let b = claim (clear (text 1 2 3) ∷ clear Offer.Over ∷ faded none ∷ []) refl (record { number = One; block = signals3 1 2 3 }) (clear none) (clear none) (clear none) (clear none) refl (whole none) (whole none) (whole none) (whole none) (in-time _ refl, in-time _ refl) in
-    not-none (length (b .rest)) (ap length (b .splits))
+cs3-ignored-is-caught claim =
+    let b = claim (clear (text 1 2 3) ∷ clear Offer.Over ∷ clear none ∷ clear none ∷ clear none ∷ []) refl .1 .confirmed-is-printed in
+    not-one (length (b .rest)) (ap length (b .splits))
 
 -- "All else: send RQ RQ RQ" read as the block again: it is printed twice
 abbrev sendsBlock : Held → First → Doing
@@ -249,7 +281,7 @@ sendsBlock h Rq = Repeats (h .block)
 sendsBlock h Else = Repeats (h .block)
 
 block-for-rq-is-caught : CarriesBy (stepBy (rowsWith sendsBlock opening receives asking)) → ⊥
-unfolding through done firstNot isBlock mayHold trafficOf meaningOf heardOf firstOf isWords listened trafficIn
+unfolding through stepping sound done firstNot isBlock mayHold trafficOf meaningOf heardOf firstOf isWords listened trafficIn
 block-for-rq-is-caught claim =
     let b = claim (clear (text 1 2 3) ∷ clear none ∷ faded none ∷ clear none ∷ []) refl .0 .accepts-a-beginning in
     not-one (length (b .rest)) (ap length (b .splits))
@@ -259,9 +291,9 @@ abbrev opensAtRq : Heard → Doing
 opensAtRq h = if h .RQs then Opens else asking h
 
 rq-for-βαβ-is-caught : TwoExchangesBy (stepBy (rowsWith sending opening receives opensAtRq)) → ⊥
-unfolding through done firstNot isBlock mayHold trafficOf meaningOf heardOf firstOf isWords listened trafficIn
+unfolding through stepping sound done firstNot isBlock mayHold trafficOf meaningOf heardOf firstOf isWords listened trafficIn
 rq-for-βαβ-is-caught claim =
-    let b = claim (clear (text 1 2 3) ∷ clear Offer.Over ∷ faded none ∷ clear none ∷ clear none ∷ []) refl (record { number = One; block = signals3 1 2 3 }) (clear none) (clear none) (clear none) (clear none) refl (whole none) (whole none) (whole none) (whole none) (in-time _ refl, in-time _ refl) in
+    let b = claim (clear (text 1 2 3) ∷ clear Offer.Over ∷ faded none ∷ clear none ∷ clear none ∷ []) refl (record { number = One; block = signals3 1 2 3 }) (clear none) (clear none) (clear none) (clear none) refl (whole none, whole none, refl, refl) (whole none, whole none, refl, refl) (in-time _ refl, in-time _ refl) in
     not-none (length (b .rest)) (ap length (b .splits))
 
 -- "or the offer is over" applied to a burst that is no block: it is confirmed and not printed
@@ -270,7 +302,7 @@ breaksIn n h o =
     if h .block then receiving n h else if h .alphas then receiving n h else if isOver o then Goes Asking (single cs3) else receiving n h
 
 over-unaccepted-is-caught : CarriesBy (stepBy (rowsWith sending opening breaksIn asking)) → ⊥
-unfolding through done firstNot isBlock mayHold trafficOf meaningOf heardOf firstOf isWords listened trafficIn
+unfolding through stepping sound done firstNot isBlock mayHold trafficOf meaningOf heardOf firstOf isWords listened trafficIn
 over-unaccepted-is-caught claim =
     let b = claim (clear (text 1 2 3) ∷ struck Offer.Over ∷ clear none ∷ []) refl .1 .confirmed-is-printed in
     not-none (length (b .rest)) (ap length (b .splits))
@@ -283,7 +315,7 @@ takesOne r Rq = opening r Rq
 takesOne r Else = opening r Else
 
 always-one-is-caught : CarriesBy (stepBy (rowsWith sending takesOne receives asking)) → ⊥
-unfolding through done firstNot isBlock mayHold trafficOf meaningOf heardOf firstOf isWords listened trafficIn
+unfolding through stepping sound done firstNot isBlock mayHold trafficOf meaningOf heardOf firstOf isWords listened trafficIn
 always-one-is-caught claim =
     let b = claim (clear Offer.Over ∷ clear none ∷ clear none ∷ clear none ∷ clear none ∷ clear (text 4 5 6) ∷ clear none ∷ clear none ∷ clear none ∷ []) refl .0 .accepts-a-beginning in
     not-one (length (b .rest)) (ap length (b .splits))

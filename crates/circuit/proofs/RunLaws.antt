@@ -121,10 +121,10 @@ pub still-at : {p : Place} {sent w : Words} (s : Station) → Says s p sent w �
 still-at s (aloud q i) = here q
 still-at s (no-more q i) = gone q
 
-linked-again : (c : Circuit) (b : Words) (r : Reply) (l : Linked c) →
-    After (l .owed-hearer) (l .owed-sender) (l .sender-at) r (confirmedBy (c .hearer) b) (acceptedBy (c .hearer) b) →
-    Linked (answeredBy c b r)
-linked-again c b r l a =
+linked-again : (c : Circuit) (o : Offer) (b : Words) (r : Reply) (l : Linked c) →
+    After o (l .owed-hearer) (l .owed-sender) (l .sender-at) r (confirmedBy (c .hearer) b) (acceptedBy (c .hearer) b) →
+    Linked (answeredBy c o b r)
+linked-again c o b r l a =
     record {
       hearer-at = l .sender-at;
       sender-at = a .place;
@@ -144,7 +144,7 @@ linked-next c e h l = go (said c e) refl
     go : (a : Answer Reply) → said c e ≡ a → Linked (goesOn c e a)
     go (answered r) i =
         let y = answers (c .hearer) (heard e (c .burst)) (e .offer) r i in
-        linked-again c (heard e (c .burst)) r l (rw (y .is-done) (acts-at (c .hearer) (heard e (c .burst)) (e .offer) (l .hears) (l .link) (heard-mangled c e h (l .says)) (y .is-fine)))
+        linked-again c (e .offer) (heard e (c .burst)) r l (rw (y .is-done) (acts-at (c .hearer) (heard e (c .burst)) (e .offer) (l .hears) (l .link) (heard-mangled c e h (l .says)) (y .is-fine)))
     go (refused n v) i = l
 
 -- every run

@@ -135,16 +135,16 @@ printed-is b e =
     go (signal p q z) (signal p′ q′ z′) (signal p″ q″ z″) = rw (p, q, p′, q′, p″, q″, z, z′, z″)
 
 -- a row that takes nothing, prints nothing and confirms nothing
-goes : (s : Station) (v : Words) {x p : Place} {ox op : Owed} → s .place ≡ x → Link p x v op ox → After ox op p (sends s v) [] []
+goes : {o : Offer} (s : Station) (v : Words) {x p : Place} {ox op : Owed} → s .place ≡ x → Link p x v op ox → After o ox op p (sends s v) [] []
 goes s v {x} {p} {ox} {op} e l =
     record { place = x; word = v; ox′ = ox; op′ = op; link = l; says = aloud e refl; sends = stays; hears = nothing-new }
 
 -- the same again, or Lost
-again : (s : Station) (v : Words) {x p : Place} {ox op : Owed} → s .place ≡ x → Link p x v op ox → After ox op p (repeats s v) [] []
-again s v {x} {p} {ox} {op} e l = go (leb 31 (s .count))
+again : {o : Offer} (s : Station) (v : Words) {x p : Place} {ox op : Owed} → s .place ≡ x → Link p x v op ox → After o ox op p (repeats s v) [] []
+again {o} s v {x} {p} {ox} {op} e l = go (leb 31 (s .count))
   where
     go : (t : Bool) →
-        After ox op p (if t then sends (movedTo s Lost) silence else sends (record { role = s .role; place = s .place; count = s .count + 1; case = s .case; plus = s .plus }) v) [] []
+        After o ox op p (if t then sends (movedTo s Lost) silence else sends (record { role = s .role; place = s .place; count = s .count + 1; case = s .case; plus = s .plus }) v) [] []
     go true = record { place = x; word = v; ox′ = ox; op′ = op; link = l; says = no-more refl refl; sends = stays; hears = nothing-new }
     go false = goes (record { role = s .role; place = s .place; count = s .count + 1; case = s .case; plus = s .plus }) v e l
 
@@ -162,7 +162,7 @@ ends-now owed-nothing = stays
 ends-now confirmed-now = confirms
 
 taken : (s : Station) (n : Number) (o : Offer) {ox : Owed} {l : List Words} → InOrder o → Ready ox l →
-    After ox none (Receiving n) (takes s n o) l []
+    After o ox none (Receiving n) (takes s n o) l []
 unfolding isBlock mayHold trafficOf meaningOf
 taken s n (Offer.Text a) i y = record { place = _; word = _; ox′ = _; op′ = _; link = s1-block i; says = aloud refl refl; sends = takes-now a y; hears = nothing-new }
 taken s n Offer.Over i y = record { place = _; word = _; ox′ = _; op′ = _; link = s1-block refl; says = aloud refl refl; sends = takes-now _ y; hears = nothing-new }
@@ -170,13 +170,13 @@ taken s n Offer.End i y = record { place = _; word = _; ox′ = _; op′ = _; li
 taken s n Offer.Nothing i y = record { place = _; word = _; ox′ = _; op′ = _; link = s1-block refl; says = aloud refl refl; sends = takes-now _ y; hears = nothing-new }
 
 -- a block accepted
-accepted : (s : Station) (n : Number) (b : Words) (t : Bool) (l : Listening) → isBlock b ≡ true →
-    After none (unheard b) (Sending (held n b)) (acceptsBy s n b t l) [] (b ∷ [])
+accepted : {o : Offer} (s : Station) (n : Number) (b : Words) (t : Bool) (l : Listening) → isBlock b ≡ true →
+    After o none (unheard b) (Sending (held n b)) (acceptsBy s n b t l) [] (b ∷ [])
 accepted s n b true l i = record { place = _; word = _; ox′ = _; op′ = _; link = s2-cs3; says = aloud refl refl; sends = stays; hears = rw (printed-is b i) came }
-accepted s n b false l i = go (l .over)
+accepted {o} s n b false l i = go (l .over)
   where
     go : (u : Bool) →
-        After none (unheard b) (Sending (held n b)) (if u then record { station = heardAt s Asking l; sent = single cs3; printed = trafficIn b; taken = false } else record { station = heardAt s (Receiving (other n)) l; sent = asksFor (other n); printed = trafficIn b; taken = false }) [] (b ∷ [])
+        After o none (unheard b) (Sending (held n b)) (if u then record { station = heardAt s Asking l; sent = single cs3; printed = trafficIn b; taken = false } else record { station = heardAt s (Receiving (other n)) l; sent = asksFor (other n); printed = trafficIn b; taken = false }) [] (b ∷ [])
     go true = record { place = _; word = _; ox′ = _; op′ = _; link = s2-cs3; says = aloud refl refl; sends = stays; hears = rw (printed-is b i) came }
     go false = record { place = _; word = _; ox′ = _; op′ = _; link = s1-other; says = aloud refl refl; sends = stays; hears = rw (printed-is b i) came }
 
@@ -197,7 +197,7 @@ module _ (r : Role) (k : ℕ) (c : Case) (m : Bool) (b : Words) (o : Offer) wher
   at x = record { role = r; place = x; count = k; case = c; plus = m }
 
   abbrev Row : Place → Place → Owed → Owed → Doing → First → Bool → Type 0
-  Row x p ox op d f t = After ox op p (done (at x) b o d) (confirmedOf x f) (if isReceiving x && t then b ∷ [] else [])
+  Row x p ox op d f t = After o ox op p (done (at x) b o d) (confirmedOf x f) (if isReceiving x && t then b ∷ [] else [])
 
   -- S1, Sending: "Control signal of its own number: send the block again. Of the other number: the block is confirmed; take the
   -- offer"; "All else: send RQ RQ RQ"
@@ -292,7 +292,7 @@ module _ (r : Role) (k : ℕ) (c : Case) (m : Bool) (b : Words) (o : Offer) wher
       Row (Receiving n) (Sending (held n a)) none (unheard a) (if t then Accepts n else if isWords b ααα then Goes StandBy (asksFor (other n)) else Repeats (asksFor n)) (firstOf (b .0)) t
   unfolding done
   block-heard n a i g true e =
-      subst (λ (a : Words). After none (unheard a) (Sending (held n a)) (acceptsBy (at (Receiving n)) n b (isOver o) (listenedAll c m b)) [] (b ∷ [])) (whole-block a b g e) (accepted (at (Receiving n)) n b (isOver o) (listenedAll c m b) e)
+      subst (λ (a : Words). After o none (unheard a) (Sending (held n a)) (acceptsBy (at (Receiving n)) n b (isOver o) (listenedAll c m b)) [] (b ∷ [])) (whole-block a b g e) (accepted (at (Receiving n)) n b (isOver o) (listenedAll c m b) e)
   block-heard n a i g false e =
       rw (no-words a b ααα g ααα-signals (block-no-ααα a i)) (again (at (Receiving n)) (asksFor n) refl (s1-own i))
 
@@ -337,7 +337,7 @@ module _ (r : Role) (k : ℕ) (c : Case) (m : Bool) (b : Words) (o : Offer) wher
 -- of every station that is linked
 pub acts-at : (s : Station) (b : Words) (o : Offer) {x p : Place} {w : Words} {ox op : Owed} → At s x → Link x p w ox op →
     Mangled w b → InOrder o →
-    After ox op p (done s b o (rowOf (s .role) (s .place) (heardOf b))) (confirmedBy s b) (acceptedBy s b)
+    After o ox op p (done s b o (rowOf (s .role) (s .place) (heardOf b))) (confirmedBy s b) (acceptedBy s b)
 acts-at s b o {x} {p} {w} {ox} {op} (here e) l g y =
     acts (s .role) (s .count) (s .case) (s .plus) b o (subst (λ (q : Place). Link q p w ox op) (sym e) l) g y
 acts-at s b o {x} {p} {w} {ox} {op} (gone e) l g y =

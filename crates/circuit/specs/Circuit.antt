@@ -13,7 +13,7 @@ use mathlib.Core.List.{List, [], _∷_, _++_}
 use Prim.Native.Nat.{ℕ}
 use lib.Dec.{eqb}
 use Rattle.laws.specs.Choice.{if_then_else_}
-use Rattle.signals.specs.Meaning.{trafficOf}
+use Rattle.signals.specs.Meaning.{trafficOf, figures, beta}
 use Rattle.signals.specs.Damage.{Damage, kept, arrives, NoSignal}
 use Rattle.signals.specs.Numbers.{Answer, answered, refused}
 use Rattle.mode_a.specs.declared.Words.{Words}
@@ -25,6 +25,7 @@ use Rattle.mode_a.specs.declared.Station.{Station}
 use Rattle.mode_a.specs.declared.Reply.{Reply}
 use Rattle.mode_a.specs.Station.{words, listOf, same, freshMaster, freshSlave, firstBurst}
 use Rattle.mode_a.specs.Heard.{First, Cs, Cs3, Rq, Else, firstOf, isBlock}
+use Rattle.mode_a.specs.Over.{cross, query}
 use Rattle.mode_a.specs.Step.{stepping}
 
 pub record Event : Type 0 where
@@ -69,20 +70,26 @@ pub record Direction : Type 0 where
 abbrev pub nothingYet : Direction
 nothingYet = record { taken = []; accepted = []; printed = []; confirmed = [] }
 
--- "Text gives that block, nothing gives βββ, over gives figures + ?": an offer taken that has become a held block. An over
--- taken at Receiving is no block, and end is none that is held.
-abbrev pub heldAt : Place → List Words
-heldAt (Sending h) = h .block ∷ []
-heldAt (Turning n) = []
-heldAt Opening = []
-heldAt (Ending e) = []
-heldAt (Receiving n) = []
-heldAt Asking = []
-heldAt StandBy = []
-heldAt Lost = []
+-- "take the offer .. Text gives that block, nothing gives βββ, over gives figures + ?": a block taken from an offer is the block of
+-- an offer that is taken by a station then at Sending. An over taken at Receiving is no block, and end is none that is held.
+abbrev pub blockOf : Offer → List Words
+blockOf (Offer.Text w) = w ∷ []
+blockOf Offer.Over = words figures cross query ∷ []
+blockOf Offer.End = []
+blockOf Offer.Nothing = words beta beta beta ∷ []
 
-abbrev pub takenBy : Reply → List Words
-takenBy r = if r .taken then heldAt (r .station .place) else []
+abbrev pub isSending : Place → Bool
+isSending (Sending h) = true
+isSending (Turning n) = false
+isSending Opening = false
+isSending (Ending e) = false
+isSending (Receiving n) = false
+isSending Asking = false
+isSending StandBy = false
+isSending Lost = false
+
+abbrev pub takenBy : Offer → Reply → List Words
+takenBy o r = if r .taken && isSending (r .station .place) then blockOf o else []
 
 -- "Receiving .. Three intact words, each traffic or β: accepted"
 abbrev pub isReceiving : Place → Bool
@@ -98,7 +105,7 @@ isReceiving Lost = false
 abbrev pub acceptedBy : Station → Words → List Words
 acceptedBy s b = if isReceiving (s .place) && isBlock b then b ∷ [] else []
 
--- "up to three printed signals": the words of the reply, without the zeros behind them
+-- "up to three printed signals": the words of the reply, without its zeros
 abbrev pub withoutZeros : List ℕ → List ℕ
 withoutZeros [] = []
 withoutZeros (w ∷ ws) = if eqb w 0 then withoutZeros ws else w ∷ withoutZeros ws
@@ -145,8 +152,8 @@ fresh =
 abbrev pub said : Circuit → Event → Answer Reply
 said c e = stepping (c .hearer) (heard e (c .burst)) (e .offer)
 
-abbrev pub answeredBy : Circuit → Words → Reply → Circuit
-answeredBy c b r =
+abbrev pub answeredBy : Circuit → Offer → Words → Reply → Circuit
+answeredBy c o b r =
     record {
       hearer = c .sender;
       sender = r .station;
@@ -158,7 +165,7 @@ answeredBy c b r =
         confirmed = c .from-sender .confirmed;
       };
       from-sender = record {
-        taken = c .from-hearer .taken ++ takenBy r;
+        taken = c .from-hearer .taken ++ takenBy o r;
         accepted = c .from-hearer .accepted;
         printed = c .from-hearer .printed;
         confirmed = c .from-hearer .confirmed ++ confirmedBy (c .hearer) b;
@@ -166,7 +173,7 @@ answeredBy c b r =
     }
 
 abbrev pub goesOn : Circuit → Event → Answer Reply → Circuit
-goesOn c e (answered r) = answeredBy c (heard e (c .burst)) r
+goesOn c e (answered r) = answeredBy c (e .offer) (heard e (c .burst)) r
 goesOn c e (refused n v) = c
 
 abbrev pub next : Circuit → Event → Circuit

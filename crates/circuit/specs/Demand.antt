@@ -64,7 +64,7 @@ InOrder Offer.Nothing = Unit {0}
 --                              succession, each begun by its sender, unless a station reaches its time-out first."
 --     one-exchange             one is enough, but for one case;
 --     two-are-needed           in that case one is not
---     opening-hears-no-cs3     whatever the damage
+--     opening-hears-no-cs3     whatever the damage that is none of the 35
 --     refuses-only-offers      no step is refused for its station
 pub record Demand3 (c : Circuit) : Type 0 where
   pub from-hearer : Carried (c .from-hearer)

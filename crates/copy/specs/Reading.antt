@@ -65,7 +65,8 @@ seenFrom d k (p ∷ q ∷ r ∷ ps) =
     seen p (lost d k q r) ++ (if endsBehind d k q r then [] else seenFrom d (twoOn k) (q ∷ r ∷ ps))
 
 -- What is printed of the positions from slot k on: nothing, or what is seen from a return or line feed on that is not lost.
--- From which one is not said here: that depends on where the receiver comes into phase (R-112).
+-- From which one is not said here, nor whether it prints at all: that depends on where the receiver comes into phase (R-112), and
+-- `late-copy` says when it does.
 pub data Printed (d : Damages) : ℕ → List Position → List ℕ → Type 0 where
   nothing : {k : ℕ} {ps : List Position} → Printed d k ps []
   here : {k w : ℕ} {q r : Position} {ps : List Position} → begins w ≡ true → lost d k q r ≡ false → Printed d k (signal w ∷ q ∷ r ∷ ps) (seenFrom d k (signal w ∷ q ∷ r ∷ ps))
