@@ -1,8 +1,8 @@
 -- 01, The station: what the rows ask of a burst: its first word, and what its three words are together. Any byte may be heard.
 --
 -- Whether a word is a control signal or traffic is told by the place that hears it (R-022): Sending, Opening and Ending read
--- the first word only and ask what it is as a control signal, whatever follows it; Turning asks for CS3 or
--- RQ first, or three RQ; Receiving for a block or ααα; Asking for βαβ.
+-- the first word only and ask what it is as a control signal, whatever follows it; Turning asks for CS3 or RQ first, or three
+-- RQ; Receiving for a block or ααα; Asking for βαβ.
 -- Assumes nothing.
 use mathlib.Core.Bool.{Bool, _&&_, _||_}
 use Prim.Native.Nat.{ℕ}

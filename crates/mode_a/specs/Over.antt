@@ -2,9 +2,9 @@
 --
 -- "The over is heard when ? follows + in figures case with only β between, within a block or across blocks; any other signal
 -- between cancels it, and so does the step from Asking to Opening or from Turning to Receiving. Only accepted blocks count here.
--- The case of a direction starts at letters and lasts through turns." The cancelling steps are `cancelledTo` (R-089), what counts is
--- `accepts` alone (R-090), and the case stays in `movedTo` and `cancelledTo` (R-091), all in Step.antt. A shift is such another signal, also one to figures. ? is the figure of B, + of Z; in letters case they
--- are letters and no part of an over.
+-- The case of a direction starts at letters and lasts through turns." The cancelling steps are `cancelledTo` (R-089), what counts
+-- is `accepts` alone (R-090), and the case stays in `movedTo` and `cancelledTo` (R-091), all in Step.antt. A shift is such another
+-- signal, also one to figures. ? is the figure of B, + of Z; in letters case they are letters and no part of an over.
 -- Assumes nothing.
 use mathlib.Core.Bool.{Bool, true, false, _||_}
 use Prim.Native.Nat.{ℕ}

@@ -1,9 +1,8 @@
 -- 01, The station: "The step has one row for each place and one column for each kind of burst."  R-047 to R-085
 --
 -- A row a place, in 01's order, with 01's words and 001's sections. `Repeats`: it stays and sends these; `Goes`: it goes to the
--- place and sends these; `Takes`: it takes the offer under the number; `Receives` and `Opens`: it goes to Receiving or
--- Opening, which cancels a + heard. What a `Takes`, an `Accepts` and the count then do is
--- Step.antt.
+-- place and sends these; `Takes`: it takes the offer under the number; `Receives` and `Opens`: it goes to Receiving or Opening,
+-- which cancels a + heard. What a `Takes`, an `Accepts` and the count then do is Step.antt.
 -- Assumes nothing.
 use mathlib.Core.Bool.{Bool, true, false}
 use Prim.Native.Nat.{_+_}

@@ -74,10 +74,6 @@ same-shift Letters Figures p = absurd (omega arith)
 same-shift Figures Letters p = absurd (omega arith)
 same-shift Figures Figures p = refl
 
-shift-case : (c d : Case) → caseAt c (shiftTo d) ≡ d
-shift-case c Letters = refl
-shift-case c Figures = refl
-
 module _ (x : ℕ) (byte : x < 256) (rest : List ℕ) where
   -- the signal itself, in a case that it leaves in force
   own : (c : Case) (w : ℕ) → wordIs (characterOf x) ≡ w → Right c rest → Right c (w ∷ rest)
