@@ -11,7 +11,7 @@
 --     E3      Receiving          Stand-by
 --     E4      Stand-by           Stand-by
 --
--- A station that is Lost is linked by the place where it was: it says nothing, which is damage to all that it might have said.
+-- A station that is Lost is linked by the place where it was, as if it were still there and all its bursts were damaged.
 -- Assumes nothing.
 use mathlib.Core.Path.{_≡_}
 use mathlib.Core.Bool.{true}

@@ -1,8 +1,8 @@
 -- Demand 3 cannot be said more strongly, and it tells wrong readings of the rows from 01's: each stronger sentence, and the same
 -- sentence over each wrong reading, is refuted by a computed run.
 --     no-…             what more might be said
---     …-is-caught      a wrong reading, and the sentence that a run over it breaks; over 01's rows both sentences hold
---                      (right-carries, right-exchanges)
+--     …-is-caught      a wrong reading, and the sentence that a run over it breaks; over 01's rows the sentences hold
+--                      (right-carries, right-keeps, right-exchanges)
 -- Assumes nothing.
 use mathlib.Core.Path.{_≡_, refl, ap, subst, sym, _∙_}
 use mathlib.Core.Bool.{Bool, true, false}
@@ -31,8 +31,8 @@ use Rattle.mode_a.specs.Over.{query, cross, listened}
 use Rattle.mode_a.specs.Rows.{rowOf, sending, opening, asking, receiving}
 use Rattle.mode_a.specs.Step.{isOver, trafficIn, done, sound, stepping}
 use Rattle.signals.specs.Damage.{kept, hurt}
-use Rattle.circuit.specs.Circuit.{Event, heard, Whole, Run, start, _▷_, Direction, Circuit, fresh, said, answeredBy, goesOn, next, after, AllHarmless, isAnswered}
-use Rattle.circuit.specs.Demand.{Carried, Exchanged, InTime, Confirms, Demand3}
+use Rattle.circuit.specs.Circuit.{Event, heard, Whole, Run, start, _▷_, Direction, Circuit, fresh, said, confirmedBy, answeredBy, goesOn, next, after, AllHarmless, isAnswered}
+use Rattle.circuit.specs.Demand.{Carried, Kept, Exchanged, InTime, Confirms, Demand3}
 use Rattle.circuit.proofs.RunLaws.{answers}
 use Rattle.circuit.proofs.Theorem.{demand3}
 use Rattle.circuit.proofs.Computed.{run-of, through, computed}
@@ -219,6 +219,10 @@ stepBy rows c e =
 abbrev CarriesBy : (Circuit → Event → Circuit) → Type 0
 CarriesBy step = (es : List Event) → isHarmless es ≡ true → Carried (through step fresh es .from-hearer) × Carried (through step fresh es .from-sender)
 
+abbrev KeepsBy : (Circuit → Event → Circuit) → Type 0
+KeepsBy step =
+    (es : List Event) → isHarmless es ≡ true → let c = through step fresh es in Kept (c .hearer .place) (c .from-hearer) × Kept (c .sender .place) (c .from-sender)
+
 abbrev Undamaged : (Circuit → Event → Circuit) → Circuit → Event → Event → Type 0
 Undamaged step c d e = Whole d × Whole e × (isAnswered (said c d) ≡ true) × (isAnswered (said (step c d) e) ≡ true)
 
@@ -229,7 +233,7 @@ TwoFrom step c =
 abbrev TwoExchangesBy : (Circuit → Event → Circuit) → Type 0
 TwoExchangesBy step = (es : List Event) → isHarmless es ≡ true → TwoFrom step (through step fresh es)
 
--- Over 01's rows both hold.
+-- Over 01's rows all three hold.
 abbrev rightStep : Circuit → Event → Circuit
 rightStep = stepBy (rowsWith sending opening receives asking)
 
@@ -252,6 +256,9 @@ of-run es h = subst Demand3 (computed start es) (demand3 (run-of start es) (harm
 right-carries : CarriesBy rightStep
 right-carries = subst CarriesBy (sym right-steps) (λ es h. (of-run es h .from-hearer, of-run es h .from-sender))
 
+right-keeps : KeepsBy rightStep
+right-keeps = subst KeepsBy (sym right-steps) (λ es h. (of-run es h .hearer-keeps, of-run es h .sender-keeps))
+
 exchanged-by : (c : Circuit) (d e : Event) → Undamaged next c d e → Exchanged c (next (next c d) e)
 exchanged-by c d e (w, v, i, j) =
     record { out = d; back = e; whole = w; whole-back = v; answered = i; answered-back = j; leads = refl }
@@ -260,18 +267,112 @@ right-exchanges : TwoExchangesBy rightStep
 right-exchanges =
     subst TwoExchangesBy (sym right-steps) (λ es h k e₁ e₂ e₃ e₄ p u v t. of-run es h .two-exchanges k _ _ p (exchanged-by (through next fresh es) e₁ e₂ u) (exchanged-by (next (next (through next fresh es) e₁) e₂) e₃ e₄ v) t)
 
--- "CS3: confirmed" read as all else: the block is confirmed again and again
+-- "CS3: confirmed" read as all else: the block is never confirmed. What is counted is what this reading counts: nothing at CS3.
 abbrev ignoresCs3 : Held → First → Doing
 ignoresCs3 h (Cs n) = sending h (Cs n)
 ignoresCs3 h Cs3 = Repeats RQ×3
 ignoresCs3 h Rq = sending h Rq
 ignoresCs3 h Else = sending h Else
 
-cs3-ignored-is-caught : CarriesBy (stepBy (rowsWith ignoresCs3 opening receives asking)) → ⊥
+abbrev notAtCs3 : First → List Words → List Words
+notAtCs3 (Cs n) l = l
+notAtCs3 Cs3 l = []
+notAtCs3 Rq l = l
+notAtCs3 Else l = l
+
+abbrev countsAsConfirmed : Direction → Direction → List Words → Direction
+countsAsConfirmed before now l =
+    record { taken = now .taken; accepted = now .accepted; printed = now .printed; confirmed = before .confirmed ++ l }
+
+abbrev notCountingCs3 : (Circuit → Event → Circuit) → Circuit → Event → Circuit
+notCountingCs3 step c e =
+    let b = heard e (c .burst) in
+    if isAnswered (said c e) then
+    record {
+      hearer = step c e .hearer;
+      sender = step c e .sender;
+      burst = step c e .burst;
+      from-hearer = step c e .from-hearer;
+      from-sender = countsAsConfirmed (c .from-hearer) (step c e .from-sender) (notAtCs3 (firstOf (b .0)) (confirmedBy (c .hearer) b));
+    }
+    else c
+
+cs3-ignored-is-caught : TwoExchangesBy (notCountingCs3 (stepBy (rowsWith ignoresCs3 opening receives asking))) → ⊥
 unfolding through stepping sound done firstNot isBlock mayHold trafficOf meaningOf heardOf firstOf isWords listened trafficIn
 cs3-ignored-is-caught claim =
-    let b = claim (clear (text 1 2 3) ∷ clear Offer.Over ∷ clear none ∷ clear none ∷ clear none ∷ []) refl .1 .confirmed-is-printed in
+    let b = claim (clear (text 1 2 3) ∷ []) refl (record { number = One; block = signals3 1 2 3 }) (clear Offer.Over) (clear none) (clear none) (clear none) refl (whole Offer.Over, whole none, refl, refl) (whole none, whole none, refl, refl) (in-time _ refl, in-time _ refl) in
+    not-none (length (b .rest)) (ap length (b .splits))
+
+-- CS3 taken as no confirmation, and the block sent again after the turn: it is printed twice. At Opening such a station sends, in
+-- place of the offer, the first block that it has taken and does not count as confirmed; the offer is then not taken.
+abbrev beyond : List Words → List Words → List Words
+beyond [] l = l
+beyond (b ∷ k) [] = []
+beyond (b ∷ k) (a ∷ l) = beyond k l
+
+abbrev unconfirmed : Place → Direction → List Words
+unconfirmed (Sending h) d = []
+unconfirmed (Turning n) d = []
+unconfirmed Opening d = beyond (d .confirmed) (d .taken)
+unconfirmed (Ending e) d = []
+unconfirmed (Receiving n) d = []
+unconfirmed Asking d = []
+unconfirmed StandBy d = []
+unconfirmed Lost d = []
+
+abbrev offersAgain : List Words → Offer → Offer
+offersAgain [] o = o
+offersAgain (b ∷ l) o = Offer.Text b
+
+abbrev takenThen : List Words → List Words → List Words → List Words
+takenThen [] before now = now
+takenThen (b ∷ l) before now = before
+
+abbrev sendsAgain : Circuit → Event → Circuit
+sendsAgain c e =
+    let u = unconfirmed (c .hearer .place) (c .from-hearer) in
+    let d = notCountingCs3 next c (record { first = e .first; second = e .second; third = e .third; offer = offersAgain u (e .offer) }) in
+    record {
+      hearer = d .hearer;
+      sender = d .sender;
+      burst = d .burst;
+      from-hearer = d .from-hearer;
+      from-sender = record {
+        taken = takenThen u (c .from-hearer .taken) (d .from-sender .taken);
+        accepted = d .from-sender .accepted;
+        printed = d .from-sender .printed;
+        confirmed = d .from-sender .confirmed;
+      };
+    }
+
+again-after-the-turn-is-caught : CarriesBy sendsAgain → ⊥
+unfolding through stepping sound done firstNot isBlock mayHold trafficOf meaningOf heardOf firstOf isWords listened trafficIn
+again-after-the-turn-is-caught claim =
+    let b = claim (clear (text 1 2 3) ∷ clear Offer.Over ∷ clear none ∷ clear none ∷ clear none ∷ clear (text 4 5 6) ∷ clear Offer.Over ∷ clear none ∷ clear none ∷ clear none ∷ clear none ∷ clear none ∷ []) refl .0 .accepts-a-beginning in
     not-one (length (b .rest)) (ap length (b .splits))
+
+-- Sending that always sends RQ RQ RQ: a block that was damaged never goes out again
+abbrev alwaysRq : Held → First → Doing
+alwaysRq h f = Repeats RQ×3
+
+always-rq-is-caught : TwoExchangesBy (stepBy (rowsWith alwaysRq opening receives asking)) → ⊥
+unfolding through stepping sound done firstNot isBlock mayHold trafficOf meaningOf heardOf firstOf isWords listened trafficIn
+always-rq-is-caught claim =
+    let b = claim (clear (text 1 2 3) ∷ struck none ∷ faded none ∷ []) refl (record { number = One; block = signals3 1 2 3 }) (clear none) (clear none) (clear none) (clear none) refl (whole none, whole none, refl, refl) (whole none, whole none, refl, refl) (in-time _ refl, in-time _ refl) in
+    not-none (length (b .rest)) (ap length (b .splits))
+
+-- Sending that gives up at all else: its block is dropped, with nobody Lost
+abbrev givesUp : Held → First → Doing
+givesUp h (Cs n) = sending h (Cs n)
+givesUp h Cs3 = sending h Cs3
+givesUp h Rq = Goes StandBy silence
+givesUp h Else = Goes StandBy silence
+
+dropped-block-is-caught : KeepsBy (stepBy (rowsWith givesUp opening receives asking)) → ⊥
+unfolding through stepping sound done firstNot isBlock mayHold trafficOf meaningOf heardOf firstOf isWords listened trafficIn
+dropped-block-is-caught claim =
+    let e = claim (clear (text 1 2 3) ∷ struck none ∷ faded none ∷ []) refl .1 .none-dropped (in-time StandBy refl) in
+    not-none 0 (sym (ap length e))
 
 -- "All else: send RQ RQ RQ" read as the block again: it is printed twice
 abbrev sendsBlock : Held → First → Doing

@@ -1,6 +1,7 @@
 -- Every circuit of a run is linked; and what follows of that at once.
 --     linked         every run
 --     carried        what is owed tells what a direction has carried
+--     hearer-keeps, sender-keeps   what is owed is the block that is held
 --     never-both     no phase has both at Sending
 --     no-cs3-heard   no phase lets Opening hear CS3
 -- Assumes nothing.
@@ -25,7 +26,7 @@ use Rattle.mode_a.specs.Heard.{First, Cs, Cs3, Rq, Else, firstOf, mayHold, isBl
 use Rattle.mode_a.specs.Rows.{rowOf}
 use Rattle.mode_a.specs.Step.{done, sound, offered, stepping}
 use Rattle.circuit.specs.Circuit.{Event, heard, Harmless, Run, start, _▷_, traffic, signalsIn, Direction, Circuit, fresh, said, confirmedBy, acceptedBy, answeredBy, goesOn, next, after, AllHarmless}
-use Rattle.circuit.specs.Demand.{InOrder, Carried}
+use Rattle.circuit.specs.Demand.{InOrder, Carried, inHand, Kept}
 use Rattle.circuit.proofs.DamageLaws.{never, Mangled, mangled, mangled-silence, FirstIs, first-heard}
 use Rattle.circuit.proofs.Link.{Owed, none, unheard, heard as accepted, Link, s1-block, s1-rqs, s1-own, s1-rqs′, s1-other, s2-rqs, s2-cs3, s3-any, s3-cs3, s4-rq, s4-rqs, s5-asks, s5-rq, e1-alphas, e1-any, e2-any, e2-any′, e3-silence, e3-any, e4-any, Told, waiting, ahead, At, here, gone, Says, aloud, no-more, Linked, Moved, stays, takes-block, confirms, confirms-and-takes, Came, nothing-new, came, After}
 use Rattle.circuit.proofs.StepLaws.{asks-first, acts-at}
@@ -196,6 +197,77 @@ carried o d u =
       confirmed-is-printed = record { rest = ahead o; splits = u .accepted-is };
       ahead-by-at-most-one = omega (arith, one-ahead o, ap length (u .accepted-is), length-append (d .confirmed) (ahead o));
     }
+
+-- what is owed is what the station holds
+owed-hearer : {x p : Place} {w : Words} {ox op : Owed} → Link x p w ox op → waiting ox ≡ inHand x
+owed-hearer (s1-block i) = refl
+owed-hearer (s1-rqs i) = refl
+owed-hearer (s1-own i) = refl
+owed-hearer s1-rqs′ = refl
+owed-hearer s1-other = refl
+owed-hearer s2-rqs = refl
+owed-hearer s2-cs3 = refl
+owed-hearer s3-any = refl
+owed-hearer s3-cs3 = refl
+owed-hearer (s4-rq r) = refl
+owed-hearer s4-rqs = refl
+owed-hearer s5-asks = refl
+owed-hearer (s5-rq r) = refl
+owed-hearer e1-alphas = refl
+owed-hearer e1-any = refl
+owed-hearer e2-any = refl
+owed-hearer e2-any′ = refl
+owed-hearer e3-silence = refl
+owed-hearer e3-any = refl
+owed-hearer e4-any = refl
+
+owed-sender : {x p : Place} {w : Words} {ox op : Owed} → Link x p w ox op → waiting op ≡ inHand p
+owed-sender (s1-block i) = refl
+owed-sender (s1-rqs i) = refl
+owed-sender (s1-own i) = refl
+owed-sender s1-rqs′ = refl
+owed-sender s1-other = refl
+owed-sender s2-rqs = refl
+owed-sender s2-cs3 = refl
+owed-sender s3-any = refl
+owed-sender s3-cs3 = refl
+owed-sender (s4-rq r) = refl
+owed-sender s4-rqs = refl
+owed-sender s5-asks = refl
+owed-sender (s5-rq r) = refl
+owed-sender e1-alphas = refl
+owed-sender e1-any = refl
+owed-sender e2-any = refl
+owed-sender e2-any′ = refl
+owed-sender e3-silence = refl
+owed-sender e3-any = refl
+owed-sender e4-any = refl
+
+one-waits : (o : Owed) → length (waiting o) ≤ 1
+one-waits none = omega arith
+one-waits (unheard b) = omega arith
+one-waits (accepted b) = omega arith
+
+kept-by : (o : Owed) (x p : Place) (d : Direction) → Told o d → waiting o ≡ inHand x → (¬ (p ≡ Lost) → p ≡ x) → Kept p d
+kept-by o x p d u i at =
+    record {
+      none-dropped = λ n. u .taken-is ∙ ap (λ (l : List Words). d .confirmed ++ l) (i ∙ ap inHand (sym (at n)));
+      one-at-most = omega (arith, one-waits o, ap length (u .taken-is), length-append (d .confirmed) (waiting o));
+    }
+
+pub hearer-keeps : (c : Circuit) → Linked c → Kept (c .hearer .place) (c .from-hearer)
+hearer-keeps c l = kept-by (l .owed-hearer) (l .hearer-at) (c .hearer .place) (c .from-hearer) (l .told-hearer) (owed-hearer (l .link)) (go (l .hears))
+  where
+    go : At (c .hearer) (l .hearer-at) → ¬ (c .hearer .place ≡ Lost) → c .hearer .place ≡ l .hearer-at
+    go (here e) n = e
+    go (gone e) n = absurd (n e)
+
+pub sender-keeps : (c : Circuit) → Linked c → Kept (c .sender .place) (c .from-sender)
+sender-keeps c l = kept-by (l .owed-sender) (l .sender-at) (c .sender .place) (c .from-sender) (l .told-sender) (owed-sender (l .link)) (go (l .says))
+  where
+    go : Says (c .sender) (l .sender-at) (c .burst) (l .would-say) → ¬ (c .sender .place ≡ Lost) → c .sender .place ≡ l .sender-at
+    go (aloud e j) n = e
+    go (no-more e j) n = absurd (n e)
 
 -- no phase has both at Sending
 abbrev isSending : Place → Bool

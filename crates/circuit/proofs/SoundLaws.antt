@@ -1,4 +1,4 @@
--- The stations of a run are sound: its count is at most 31, an Ending total 1 to 4, and what is held is a block. So a step is
+-- The stations of a run are sound: their counts are at most 31, an Ending total 1 to 4, and what is held is a block. So a step is
 -- refused only for its offer. Assumes nothing.
 use mathlib.Core.Path.{_≡_, refl, ap, sym, _∙_}
 use mathlib.Core.Bool.{Bool, true, false, _&&_}

@@ -2,7 +2,7 @@
 use Rattle.circuit.specs.Circuit.{Circuit, after}
 use Rattle.circuit.specs.Demand.{Demand3, OfEveryRun}
 use Rattle.circuit.proofs.Link.{Linked}
-use Rattle.circuit.proofs.RunLaws.{linked, carried, never-both, no-cs3-heard}
+use Rattle.circuit.proofs.RunLaws.{linked, carried, hearer-keeps, sender-keeps, never-both, no-cs3-heard}
 use Rattle.circuit.proofs.LiveLaws.{one-exchange, two-are-needed, two-exchanges}
 use Rattle.circuit.proofs.SoundLaws.{BothSound, answered-if, sound-run}
 
@@ -11,6 +11,8 @@ of-linked c l s =
     record {
       from-hearer = carried (l .owed-hearer) (c .from-hearer) (l .told-hearer);
       from-sender = carried (l .owed-sender) (c .from-sender) (l .told-sender);
+      hearer-keeps = hearer-keeps c l;
+      sender-keeps = sender-keeps c l;
       never-both-sending = never-both c l;
       two-exchanges = two-exchanges c l;
       one-exchange = one-exchange c l;

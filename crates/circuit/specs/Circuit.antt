@@ -1,4 +1,4 @@
--- A fresh master and a fresh slave of mode A, no third sender: every run of the two.
+-- 01, How the promises are judged: a fresh master and a fresh slave of mode A, no third sender: every run of the two.  R-094, R-172
 --
 -- "its first burst is CS1": the slave's CS1 is on the way when the run starts. Bursts alternate, and each is heard once: the
 -- station that hears answers, and the other hears that next. An event is what happens to the burst on the way, word by word,
@@ -71,7 +71,7 @@ abbrev pub nothingYet : Direction
 nothingYet = record { taken = []; accepted = []; printed = []; confirmed = [] }
 
 -- "take the offer .. Text gives that block, nothing gives βββ, over gives figures + ?": a block taken from an offer is the block of
--- an offer that is taken by a station then at Sending. An over taken at Receiving is no block, and end is none that is held.
+-- an offer that is taken by a station that is at Sending after the step. An over taken at Receiving is no block, and end is none that is held.
 abbrev pub blockOf : Offer → List Words
 blockOf (Offer.Text w) = w ∷ []
 blockOf Offer.Over = words figures cross query ∷ []
@@ -183,8 +183,8 @@ unfoldable pub after : Run → Circuit
 after start = fresh
 after (run ▷ e) = next (after run) e
 
--- the runs that demand 3 speaks of: no damage looks like one of the 35. An offer that is refused is no step, so that runs with
--- refused offers are among them.
+-- the runs that demand 3 speaks of: no damage looks like one of the 35. An offer that is refused is no step; demand 3 leaves runs with
+-- refused offers out, and here they are covered too.
 unfoldable pub AllHarmless : Run → Type 0
 AllHarmless start = Unit {0}
 AllHarmless (run ▷ e) = AllHarmless run × Harmless e

@@ -1,4 +1,4 @@
--- Demand 3, of every run of a fresh master and a fresh slave.
+-- 01, How the promises are judged: demand 3, of every run of a fresh master and a fresh slave.  R-172
 -- Assumes nothing.
 use mathlib.Core.Path.{_≡_}
 use mathlib.Core.Bool.{true}
@@ -7,7 +7,9 @@ use Prim.Native.Nat.{ℕ, _+_, _≤_}
 use lib.ListN.{length}
 use Rattle.mode_a.specs.declared.Words.{Words}
 use Rattle.mode_a.specs.declared.Held.{Held}
-use Rattle.mode_a.specs.declared.Place.the-variants.{Sending, Opening, Receiving, Lost}
+use Rattle.mode_a.specs.declared.Ended.{Ended}
+use Rattle.mode_a.specs.declared.Place.{Place}
+use Rattle.mode_a.specs.declared.Place.the-variants.{Sending, Turning, Opening, Ending, Receiving, Asking, StandBy, Lost}
 use Rattle.mode_a.specs.declared.Offer.{Offer}
 use Rattle.mode_a.specs.Station.{RQ×3}
 use Rattle.mode_a.specs.Heard.{Cs3, firstOf, isBlock}
@@ -28,6 +30,22 @@ pub record Carried (d : Direction) : Type 0 where
   pub prints-a-beginning : Beginning ℕ (d .printed) (signalsIn (d .taken))
   pub confirmed-is-printed : Beginning Words (d .confirmed) (d .accepted)
   pub ahead-by-at-most-one : length (d .accepted) ≤ length (d .confirmed) + 1
+
+-- What a station has taken and does not count as confirmed is the block that it holds, and nothing where it is not at Sending: none
+-- is dropped. One that is Lost is behind by one block at most.
+abbrev pub inHand : Place → List Words
+inHand (Sending h) = h .block ∷ []
+inHand (Turning n) = []
+inHand Opening = []
+inHand (Ending e) = []
+inHand (Receiving n) = []
+inHand Asking = []
+inHand StandBy = []
+inHand Lost = []
+
+pub record Kept (p : Place) (d : Direction) : Type 0 where
+  pub none-dropped : ¬ (p ≡ Lost) → d .taken ≡ d .confirmed ++ inHand p
+  pub one-at-most : length (d .taken) ≤ length (d .confirmed) + 1
 
 -- "undamaged exchanges in succession, each begun by its sender": the burst on the way is heard, and then the answer to it
 pub record Exchanged (c d : Circuit) : Type 0 where
@@ -59,6 +77,7 @@ InOrder Offer.End = Unit {0}
 InOrder Offer.Nothing = Unit {0}
 
 -- Of a circuit, whose stations are the one that hears next and the one that has sent.
+--     hearer-keeps, sender-keeps    no block that is taken is dropped
 --     never-both-sending       "The two never both have text on the way."
 --     two-exchanges            "A block waiting for its confirmation, the end block apart, gets it within two undamaged exchanges in
 --                              succession, each begun by its sender, unless a station reaches its time-out first."
@@ -69,6 +88,8 @@ InOrder Offer.Nothing = Unit {0}
 pub record Demand3 (c : Circuit) : Type 0 where
   pub from-hearer : Carried (c .from-hearer)
   pub from-sender : Carried (c .from-sender)
+  pub hearer-keeps : Kept (c .hearer .place) (c .from-hearer)
+  pub sender-keeps : Kept (c .sender .place) (c .from-sender)
   pub never-both-sending : (h g : Held) → c .hearer .place ≡ Sending h → ¬ (c .sender .place ≡ Sending g)
   pub two-exchanges : (h : Held) (d g : Circuit) → c .sender .place ≡ Sending h → Exchanged c d → Exchanged d g → InTime g →
       Confirms h c g

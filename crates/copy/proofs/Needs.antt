@@ -13,9 +13,9 @@ use lib.ListN.{length, getD}
 use Rattle.laws.specs.Choice.{if_then_else_}
 use Rattle.laws.proofs.Below.{every, at-below, both-left, both-right}
 use Rattle.signals.specs.Units.{intactOf, onesOf}
-use Rattle.signals.specs.Meaning.{meaningOf, trafficOf, wordNo}
+use Rattle.signals.specs.Meaning.{meaningOf, trafficOf, wordNo, errorMark}
 use Rattle.mode_b.specs.Sender.{carriageReturn, lineFeed, withBreaks, positionsOf, slotsFrom, slotsOf}
-use Rattle.mode_b.specs.Receiver.{settled, settledAlone, heardDx, heardRx, errorMark}
+use Rattle.mode_b.specs.Receiver.{settled, settledAlone, heardDx, heardRx}
 use Rattle.signals.specs.Damage.{Damage, kept, hurt, NoSignal}
 use Rattle.copy.specs.Run.{Damages, heardFrom, listen, copyFrom}
 use Rattle.copy.specs.Premise.{Text, Clause, Holds, Needed}

@@ -8,9 +8,9 @@ use lib.Dec.{eqb, leb, ltb}
 use lib.ListN.{replicate}
 use Rattle.laws.specs.Choice.{if_then_else_}
 use Rattle.signals.specs.Units.{intactOf, onesOf}
-use Rattle.signals.specs.Meaning.{meaningOf, trafficOf, wordNo}
+use Rattle.signals.specs.Meaning.{meaningOf, trafficOf, wordNo, errorMark}
 use Rattle.mode_b.specs.Sender.{carriageReturn, lineFeed, withBreaks, positionsOf, slotsFrom, slotsOf}
-use Rattle.mode_b.specs.Receiver.{settled, settledAlone, heardDx, heardRx, errorMark}
+use Rattle.mode_b.specs.Receiver.{settled, settledAlone, heardDx, heardRx}
 use Rattle.signals.specs.Damage.{kept, hurt}
 use Rattle.copy.specs.Run.{Damages, heardFrom, listen, copyFrom}
 

@@ -9,11 +9,11 @@ use lib.Dec.{eqb}
 use lib.ListN.{replicate}
 use Rattle.laws.specs.Choice.{if_then_else_}
 use Rattle.signals.specs.Units.{intactOf, onesOf}
-use Rattle.signals.specs.Meaning.{trafficOf, meaningOf, alpha, rq}
+use Rattle.signals.specs.Meaning.{trafficOf, meaningOf, alpha, rq, errorMark}
 use Rattle.mode_b.specs.declared.Phasing.{Phasing}
 use Rattle.mode_b.specs.declared.Receiver.{Receiver}
 use Rattle.mode_b.specs.Sender.{Position, dxOf, rxOf, carriageReturn, lineFeed, withBreaks, positionsOf, slotsFrom, slotsOf}
-use Rattle.mode_b.specs.Receiver.{Settled, settled, settledAlone, printedOf, printingAfter, begins, errorMark, heardRx, freshReceiver, receiving, receiverAfter}
+use Rattle.mode_b.specs.Receiver.{Settled, settled, settledAlone, printedOf, printingAfter, begins, heardRx, freshReceiver, receiving, receiverAfter}
 use Rattle.signals.specs.Damage.{Damage, kept, hurt, arrives, NoSignal}
 use Rattle.copy.specs.Run.{Damages, one, printsOf, heardFrom, listen, copyFrom, deafBefore}
 use Rattle.copy.specs.Premise.{Text}
@@ -339,7 +339,7 @@ pub no-wrong-signal : (text : List ℕ) (d : Damages) → Text text → ((k : �
 unfolding slotsOf
 no-wrong-signal text d t n = searching d n (positionsOf text) 0 Position.idle Position.idle freshReceiver tt tt (ordered text t) (dx0 Phasing.One)
 
--- So each signal printed is the one sent at a position, or an error mark, and the positions come in order, none twice.
+-- So each signal printed is the one sent at a position, or an error mark, and the positions come in order, none twice (in-order).
 seen-in-order : (d : Damages) (ps : List Position) (k : ℕ) → InOrder ps (seenFrom d k ps)
 unfolding seenFrom
 seen-in-order d [] k = done
@@ -362,13 +362,9 @@ printed-in-order nothing = done
 printed-in-order {d} {k} (here {w = w} {q = q} {r = r} {ps = qs} b l) = seen-in-order d (Position.signal w ∷ q ∷ r ∷ qs) k
 printed-in-order (behind p) = passed (printed-in-order p)
 
-pub in-order : (text : List ℕ) (d : Damages) → Text text → ((k : ℕ) → NoSignal (d k)) → InOrder (positionsOf text) (copyFrom 0 text d)
-in-order text d t n = printed-in-order (no-wrong-signal text d t n)
-
 -- Once printing has begun a settled position is an error mark exactly where it is lost.
-pub marked-exactly : (p : Position) → Word p → (b : Bool) → (seen p b ≡ errorMark ∷ []) ↔ (b ≡ true)
-marked-exactly p s true = ((λ e. refl), (λ e. refl))
-marked-exactly p s false = ((λ e. absurd (other p s e)), (λ e. absurd (false≢true e)))
+pub marked-exactly : (d : Damages) (k : ℕ) (p q r : Position) → Word p → (seen p (lost d k q r) ≡ errorMark ∷ []) ↔ (lost d k q r ≡ true)
+marked-exactly d k p q r s = go (lost d k q r)
   where
     no-traffic : trafficOf errorMark ≡ false
     no-traffic = unfold trafficOf meaningOf in refl
@@ -378,6 +374,13 @@ marked-exactly p s false = ((λ e. absurd (other p s e)), (λ e. absurd (false�
     other (Position.signal w) s e = let h : w ≡ errorMark = cc in false≢true (sym no-traffic ∙ ap trafficOf (sym h) ∙ s .is-traffic)
     other Position.idle s e = let z : _≡_ {A = ℕ} 0 1 = cc in omega arith
 
+    go : (b : Bool) → (seen p b ≡ errorMark ∷ []) ↔ (b ≡ true)
+    go true = ((λ e. refl), (λ e. refl))
+    go false = ((λ e. absurd (other p s e)), (λ e. absurd (false≢true e)))
+
 -- From a later slot on. What the receiver does not listen to is lost to it.
 pub no-wrong-signal-from : (start : ℕ) (text : List ℕ) (d : Damages) → Text text → ((k : ℕ) → NoSignal (d k)) → Printed (deafBefore start d) 0 (positionsOf text) (copyFrom start text d)
 no-wrong-signal-from start text d t n = rw (late-is-deaf start d (slotsOf text)) (no-wrong-signal text (deafBefore start d) t (deaf-no-signal start d n))
+
+pub in-order : (start : ℕ) (text : List ℕ) (d : Damages) → Text text → ((k : ℕ) → NoSignal (d k)) → InOrder (positionsOf text) (copyFrom start text d)
+in-order start text d t n = printed-in-order (no-wrong-signal-from start text d t n)

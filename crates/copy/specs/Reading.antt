@@ -1,8 +1,9 @@
--- 01, Mode B: what a reader may see, read off the positions sent and the damage that is never one of the 35.  R-111 to R-124
+-- 01, Mode B: what a reader may see, read off the positions sent and the damage that is never one of the 35.  R-115 to R-123
 --
 -- In words:
---     lost phasing   Nothing is printed until four phasing signals in a row are heard, at the start or in a break, and behind them a
---                    return or a line feed. What comes before is missing without a mark.
+--     lost phasing   Nothing is printed until four phasing signals in a row are heard, at the start or in a break (which the receiver
+--                    does by R-112, and which is not stated here), and behind them a return or a line feed. What comes before is
+--                    missing without a mark.
 --     break          A phasing position prints nothing; but one with both copies damaged is an error mark, as any position is.
 --     damaged end    Reception ends at the first two successive α positions with an intact DX. The position right before them is an
 --                    error mark where its DX is damaged, though its RX is still to come: the last traffic position, or an α
@@ -15,8 +16,9 @@ use mathlib.Core.Bool.{Bool, true, false, _&&_}
 use mathlib.Core.List.{List, [], _∷_, _++_}
 use Prim.Native.Nat.{ℕ, suc}
 use Rattle.laws.specs.Choice.{if_then_else_}
+use Rattle.signals.specs.Meaning.{errorMark}
 use Rattle.mode_b.specs.Sender.{Position, phasing, signal, idle}
-use Rattle.mode_b.specs.Receiver.{begins, errorMark}
+use Rattle.mode_b.specs.Receiver.{begins}
 use Rattle.signals.specs.Damage.{Damage, kept, hurt}
 use Rattle.copy.specs.Run.{Damages}
 

@@ -1,4 +1,4 @@
--- 01, Mode B: what is heard of a broadcast, and what is printed of it.  R-101 to R-125
+-- 01, Mode B: what is heard of a broadcast, and what is printed of it.  R-125
 -- Assumes nothing.
 use mathlib.Core.Path.{_≡_}
 use mathlib.Core.Bool.{Bool, true, false}

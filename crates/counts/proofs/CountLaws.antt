@@ -19,8 +19,8 @@ use Rattle.mode_a.specs.declared.Reply.{Reply}
 use Rattle.mode_a.specs.Station.{freshMaster, freshSlave}
 use Rattle.mode_a.specs.Heard.{mayHold, heardOf}
 use Rattle.mode_a.specs.Rows.{rowOf}
-use Rattle.mode_a.specs.Step.{done, sound, offered, stepping, stationAfter}
-use Rattle.counts.specs.Runs.{Event, after, isLost, repetition, goesOn, inARow}
+use Rattle.mode_a.specs.Step.{done, soundPlace, sound, offered, stepping, stationAfter}
+use Rattle.counts.specs.Runs.{Event, after, isLost, stays, uncounted, repetition, goesOn, inARow}
 use Rattle.counts.specs.Counts.{Counted}
 use Rattle.counts.proofs.StepLaws.{Fact, step-fact, isRepeats}
 
@@ -37,6 +37,26 @@ answered-is s b o r e = go (sound s) (ltb (firstNot mayHold (offered o)) (length
 fact-of : (s : Station) (b : Words) (o : Offer) (r : Reply) → stepping s b o ≡ answered r → Fact s (heardOf b) (rowOf (s .role) (s .place) (heardOf b)) r
 fact-of s b o r e = rw (answered-is s b o r e) (step-fact s b o (heardOf b))
 
+-- and so is the answer of the same station with count 0
+uncounted-is : (s : Station) (b : Words) (o : Offer) (r : Reply) → stepping s b o ≡ answered r → stepping (uncounted s) b o ≡ answered (done (uncounted s) b o (rowOf (s .role) (s .place) (heardOf b)))
+unfolding stepping sound
+uncounted-is s b o r e =
+    go (leb (s .count) 31) (soundPlace (s .place)) (ltb (firstNot mayHold (offered o)) (length (offered o))) e
+  where
+    by : Station → Bool → Bool → Answer Reply
+    by x p q = if not p then refused 4 0 else if q then refused 3 (firstNot mayHold (offered o)) else answered (done x b o (rowOf (s .role) (s .place) (heardOf b)))
+
+    go : (c p q : Bool) → by s (c && p) q ≡ answered r → by (uncounted s) p q ≡ answered (done (uncounted s) b o (rowOf (s .role) (s .place) (heardOf b)))
+    go false p q e = let z : _≡_ {A = ℕ} 0 1 = cc in absurd (omega arith)
+    go true false q e = let z : _≡_ {A = ℕ} 0 1 = cc in absurd (omega arith)
+    go true true true e = let z : _≡_ {A = ℕ} 0 1 = cc in absurd (omega arith)
+    go true true false e = refl
+
+-- so a step is a repetition exactly where the row repeats
+told-of : (s : Station) (e : Event) (r : Reply) → stepping s (e .burst) (e .offer) ≡ answered r → repetition s e ≡ isRepeats (rowOf (s .role) (s .place) (heardOf (e .burst)))
+told-of s e r p =
+    ap (λ (a : Answer Reply). stays (s .place) (heardOf (e .burst)) (stationAfter (uncounted s) a .place)) (uncounted-is s (e .burst) (e .offer) r p) ∙ step-fact (uncounted s) (e .burst) (e .offer) (heardOf (e .burst)) .told refl
+
 -- what is kept from step to step: k repetitions in a row
 record Kept (s : Station) (k : ℕ) : Type 0 where
   counts : isLost (s .place) ≡ false → s .count ≡ k
@@ -46,10 +66,10 @@ record Kept (s : Station) (k : ℕ) : Type 0 where
 never : {A : Type 0} → true ≡ false → A
 never e = let z : _≡_ {A = ℕ} 0 1 = cc in absurd (omega arith)
 
-module _ (s : Station) (k : ℕ) (kept : Kept s k) (b : Words) (o : Offer) (r : Reply) (f : Fact s (heardOf b) (rowOf (s .role) (s .place) (heardOf b)) r) where
+module _ (s : Station) (k : ℕ) (kept : Kept s k) (b : Words) (r : Reply) (f : Fact s (heardOf b) (rowOf (s .role) (s .place) (heardOf b)) r) (again : Bool) (told : again ≡ isRepeats (rowOf (s .role) (s .place) (heardOf b))) where
   -- not Lost before: Lost exactly by the 32nd
-  by-32 : isLost (s .place) ≡ false → isLost (r .station .place) ≡ repetition (s .place) (heardOf b) (r .station .place) && eqb k 31
-  by-32 nl = rw (f .told) (go (isRepeats (rowOf (s .role) (s .place) (heardOf b))) refl)
+  by-32 : isLost (s .place) ≡ false → isLost (r .station .place) ≡ again && eqb k 31
+  by-32 nl = rw told (go (isRepeats (rowOf (s .role) (s .place) (heardOf b))) refl)
     where
       go : (t : Bool) → isRepeats (rowOf (s .role) (s .place) (heardOf b)) ≡ t → isLost (r .station .place) ≡ t && eqb k 31
       go true e = f .repeated e .0 ∙ rw (kept .counts nl) (tests (leb 31 k) refl)
@@ -59,8 +79,8 @@ module _ (s : Station) (k : ℕ) (kept : Kept s k) (b : Words) (o : Offer) (r : 
           tests false p = let h = leb-false 31 k p in sym (ne-eqb k 31 (λ e. omega arith))
       go false e = f .no-lost e nl
 
-  next : Kept (r .station) (if repetition (s .place) (heardOf b) (r .station .place) then suc k else 0)
-  next = rw (f .told) (go (isRepeats (rowOf (s .role) (s .place) (heardOf b))) (isLost (s .place)) refl refl)
+  next : Kept (r .station) (if again then suc k else 0)
+  next = rw told (go (isRepeats (rowOf (s .role) (s .place) (heardOf b))) (isLost (s .place)) refl refl)
     where
       go : (t l : Bool) → isRepeats (rowOf (s .role) (s .place) (heardOf b)) ≡ t → isLost (s .place) ≡ l → Kept (r .station) (if t then suc k else 0)
       go true true e l = never (sym e ∙ f .stays-lost l .0)
@@ -98,9 +118,9 @@ module _ (fresh : Station) (start : fresh .count ≡ 0) (open-place : isLost (fr
       record { counts = λ x. start; small = λ x. omega arith; zero-lost = λ x. start }
   kept-run (e ∷ es) = go (kept-run es) (stepping (after fresh es) (e .burst) (e .offer)) refl
     where
-      go : Kept (after fresh es) (inARow fresh es) → (a : Answer Reply) → stepping (after fresh es) (e .burst) (e .offer) ≡ a → Kept (stationAfter (after fresh es) a) (goesOn a (after fresh es .place) (heardOf (e .burst)) (inARow fresh es))
+      go : Kept (after fresh es) (inARow fresh es) → (a : Answer Reply) → stepping (after fresh es) (e .burst) (e .offer) ≡ a → Kept (stationAfter (after fresh es) a) (goesOn a (repetition (after fresh es) e) (inARow fresh es))
       go k (answered r) p =
-          next (after fresh es) (inARow fresh es) k (e .burst) (e .offer) r (fact-of (after fresh es) (e .burst) (e .offer) r p)
+          next (after fresh es) (inARow fresh es) k (e .burst) r (fact-of (after fresh es) (e .burst) (e .offer) r p) (repetition (after fresh es) e) (told-of (after fresh es) e r p)
       go k (refused n v) p = k
 
   pub counted : (run : List Event) → Counted fresh run
@@ -109,7 +129,7 @@ module _ (fresh : Station) (start : fresh .count ≡ 0) (open-place : isLost (fr
         counts = kept-run run .counts;
         at-most = kept-run run .small;
         lost-counts = kept-run run .zero-lost;
-        lost-by-the-32nd = λ e r p nl. by-32 (after fresh run) (inARow fresh run) (kept-run run) (e .burst) (e .offer) r (fact-of (after fresh run) (e .burst) (e .offer) r p) nl;
+        lost-by-the-32nd = λ e r p nl. by-32 (after fresh run) (inARow fresh run) (kept-run run) (e .burst) r (fact-of (after fresh run) (e .burst) (e .offer) r p) (repetition (after fresh run) e) (told-of (after fresh run) e r p) nl;
         lost-is-silent = λ e r p l. fact-of (after fresh run) (e .burst) (e .offer) r p .silent l;
         lost-for-good = for-good fresh run;
       }

@@ -23,7 +23,7 @@ use Rattle.mode_a.specs.Heard.{First, Cs, Cs3, Rq, Else, Heard}
 use Rattle.mode_a.specs.Over.{listenedAll}
 use Rattle.mode_a.specs.Rows.{rowOf, sending, turning, opening, endsAgain, ending, receiving, asking}
 use Rattle.mode_a.specs.Step.{done, takes, accepts, acceptsBy, isOver}
-use Rattle.counts.specs.Runs.{isLost, repetition}
+use Rattle.counts.specs.Runs.{isLost, stays}
 
 abbrev pub isRepeats : Doing → Bool
 isRepeats (Repeats w) = true
@@ -38,7 +38,7 @@ never e = let z : _≡_ {A = ℕ} 0 1 = cc in absurd (omega arith)
 
 -- what holds of a step from the place p that hears h and does d
 pub record Fact (s : Station) (h : Heard) (d : Doing) (r : Reply) : Type 0 where
-  pub told : repetition (s .place) h (r .station .place) ≡ isRepeats d
+  pub told : leb 31 (s .count) ≡ false → stays (s .place) h (r .station .place) ≡ isRepeats d
   pub stays-lost : isLost (s .place) ≡ true → (isRepeats d ≡ false) × (isLost (r .station .place) ≡ true)
   pub repeated : isRepeats d ≡ true → (isLost (r .station .place) ≡ leb 31 (s .count)) × (r .station .count ≡ (if leb 31 (s .count) then 0 else s .count + 1))
   pub moved : isRepeats d ≡ false → r .station .count ≡ 0
@@ -58,14 +58,14 @@ again-reply s b o w = go (leb 31 (s .count)) refl
     go true e = rw e
     go false e = rw e
 
--- at a place that is not Lost, where both ways out are told as repetitions
-again : (s : Station) (h : Heard) (b : Words) (o : Offer) (w : Words) → isLost (s .place) ≡ false → repetition (s .place) h Lost ≡ true → repetition (s .place) h (s .place) ≡ true → Fact s h (Repeats w) (done s b o (Repeats w))
-again s h b o w kept lost same = rw (again-reply s b o w) (go (leb 31 (s .count)) refl)
+-- at a place that is not Lost, where staying is told as a repetition
+again : (s : Station) (h : Heard) (b : Words) (o : Offer) (w : Words) → isLost (s .place) ≡ false → stays (s .place) h (s .place) ≡ true → Fact s h (Repeats w) (done s b o (Repeats w))
+again s h b o w kept same = rw (again-reply s b o w) (go (leb 31 (s .count)) refl)
   where
     go : (t : Bool) → leb 31 (s .count) ≡ t → Fact s h (Repeats w) (againReply s w t)
     go true e =
         record {
-          told = lost;
+          told = λ x. never (sym e ∙ x);
           stays-lost = λ l. never (sym l ∙ kept);
           repeated = λ x. rw e (refl, refl);
           moved = λ x. never x;
@@ -74,7 +74,7 @@ again s h b o w kept lost same = rw (again-reply s b o w) (go (leb 31 (s .count)
         }
     go false e =
         record {
-          told = same;
+          told = λ x. same;
           stays-lost = λ l. never (sym l ∙ kept);
           repeated = λ x. rw e (kept, refl);
           moved = λ x. never x;
@@ -83,10 +83,10 @@ again s h b o w kept lost same = rw (again-reply s b o w) (go (leb 31 (s .count)
         }
 
 -- a row that does not repeat, from a place that is not Lost to a place that is not
-else-fact : (s : Station) (h : Heard) (d : Doing) (r : Reply) → isRepeats d ≡ false → repetition (s .place) h (r .station .place) ≡ false → isLost (s .place) ≡ false → r .station .count ≡ 0 → isLost (r .station .place) ≡ false → Fact s h d r
+else-fact : (s : Station) (h : Heard) (d : Doing) (r : Reply) → isRepeats d ≡ false → stays (s .place) h (r .station .place) ≡ false → isLost (s .place) ≡ false → r .station .count ≡ 0 → isLost (r .station .place) ≡ false → Fact s h d r
 else-fact s h d r e told kept zero-now after =
     record {
-      told = told ∙ sym e;
+      told = λ x. told ∙ sym e;
       stays-lost = λ l. never (sym l ∙ kept);
       repeated = λ x. never (sym x ∙ e);
       moved = λ x. zero-now;
@@ -107,8 +107,8 @@ taken-lost s n Offer.Over = refl
 taken-lost s n Offer.End = refl
 taken-lost s n Offer.Nothing = refl
 
-taken-opening : (s : Station) (h : Heard) (n : Number) (o : Offer) → repetition Opening h (takes s n o .station .place) ≡ false
-unfolding repetition
+taken-opening : (s : Station) (h : Heard) (n : Number) (o : Offer) → stays Opening h (takes s n o .station .place) ≡ false
+unfolding stays
 taken-opening s h n (Offer.Text w) = refl
 taken-opening s h n Offer.Over = refl
 taken-opening s h n Offer.End = refl
@@ -140,43 +140,43 @@ module _ (r : Role) (k : ℕ) (c : Case) (m : Bool) (b : Words) (o : Offer) wher
   at p = record { role = r; place = p; count = k; case = c; plus = m }
 
   sending-fact : (n : Number) (w : Words) (f : First) (x y z t : Bool) → Fact (at (Sending (record { number = n; block = w }))) (record { first = f; block = x; RQs = y; alphas = z; turned = t }) (sending (record { number = n; block = w }) f) (done (at (Sending (record { number = n; block = w }))) b o (sending (record { number = n; block = w }) f))
-  unfolding done repetition
-  sending-fact One w (Cs One) x y z t = again _ _ b o w refl refl refl
-  sending-fact Two w (Cs Two) x y z t = again _ _ b o w refl refl refl
+  unfolding done stays
+  sending-fact One w (Cs One) x y z t = again _ _ b o w refl refl
+  sending-fact Two w (Cs Two) x y z t = again _ _ b o w refl refl
   sending-fact One w (Cs Two) x y z t = else-fact _ _ _ _ refl refl refl (taken-count _ Two o) (taken-lost _ Two o)
   sending-fact Two w (Cs One) x y z t = else-fact _ _ _ _ refl refl refl (taken-count _ One o) (taken-lost _ One o)
   sending-fact One w Cs3 x y z t = else-fact _ _ _ _ refl refl refl refl refl
   sending-fact Two w Cs3 x y z t = else-fact _ _ _ _ refl refl refl refl refl
-  sending-fact One w Rq x y z t = again _ _ b o _ refl refl refl
-  sending-fact Two w Rq x y z t = again _ _ b o _ refl refl refl
-  sending-fact One w Else x y z t = again _ _ b o _ refl refl refl
-  sending-fact Two w Else x y z t = again _ _ b o _ refl refl refl
+  sending-fact One w Rq x y z t = again _ _ b o _ refl refl
+  sending-fact Two w Rq x y z t = again _ _ b o _ refl refl
+  sending-fact One w Else x y z t = again _ _ b o _ refl refl
+  sending-fact Two w Else x y z t = again _ _ b o _ refl refl
 
   turning-fact : (n : Number) (f : First) (x y z t : Bool) → Fact (at (Turning n)) (record { first = f; block = x; RQs = y; alphas = z; turned = t }) (turning r n (record { first = f; block = x; RQs = y; alphas = z; turned = t })) (done (at (Turning n)) b o (turning r n (record { first = f; block = x; RQs = y; alphas = z; turned = t })))
-  unfolding done repetition
+  unfolding done stays
   turning-fact n f x y z t = go r f y
     where
       go : (r′ : Role) (f : First) (y : Bool) → Fact (at (Turning n)) (record { first = f; block = x; RQs = y; alphas = z; turned = t }) (turning r′ n (record { first = f; block = x; RQs = y; alphas = z; turned = t })) (done (at (Turning n)) b o (turning r′ n (record { first = f; block = x; RQs = y; alphas = z; turned = t })))
       go Master f true = else-fact _ _ _ _ refl refl refl refl refl
-      go Master (Cs i) false = again _ _ b o _ refl refl refl
-      go Master Cs3 false = again _ _ b o _ refl refl refl
-      go Master Rq false = again _ _ b o _ refl refl refl
-      go Master Else false = again _ _ b o _ refl refl refl
-      go Slave (Cs i) y = again _ _ b o _ refl refl refl
-      go Slave Cs3 y = again _ _ b o _ refl refl refl
+      go Master (Cs i) false = again _ _ b o _ refl refl
+      go Master Cs3 false = again _ _ b o _ refl refl
+      go Master Rq false = again _ _ b o _ refl refl
+      go Master Else false = again _ _ b o _ refl refl
+      go Slave (Cs i) y = again _ _ b o _ refl refl
+      go Slave Cs3 y = again _ _ b o _ refl refl
       go Slave Rq y = else-fact _ _ _ _ refl refl refl refl refl
-      go Slave Else y = again _ _ b o _ refl refl refl
+      go Slave Else y = again _ _ b o _ refl refl
 
   opening-fact : (f : First) (x y z t : Bool) → Fact (at Opening) (record { first = f; block = x; RQs = y; alphas = z; turned = t }) (opening r f) (done (at Opening) b o (opening r f))
-  unfolding done repetition
+  unfolding done stays
   opening-fact (Cs n) x y z t =
       else-fact _ _ _ _ refl (taken-opening (at Opening) (record { first = Cs n; block = x; RQs = y; alphas = z; turned = t }) n o) refl (taken-count (at Opening) n o) (taken-lost (at Opening) n o)
   opening-fact Cs3 x y z t = else-fact _ _ _ _ refl refl refl refl refl
-  opening-fact Rq x y z t = again _ _ b o _ refl refl refl
-  opening-fact Else x y z t = again _ _ b o _ refl refl refl
+  opening-fact Rq x y z t = again _ _ b o _ refl refl
+  opening-fact Else x y z t = again _ _ b o _ refl refl
 
   ends-fact : (h : Heard) (n : Number) (i : ℕ) → Fact (at (Ending (record { number = n; total = i }))) h (ends n i) (done (at (Ending (record { number = n; total = i }))) b o (ends n i))
-  unfolding done repetition
+  unfolding done stays
   ends-fact h n i = go (leb 4 i) refl
     where
       go : (v : Bool) → leb 4 i ≡ v → Fact (at (Ending (record { number = n; total = i }))) h (ends n i) (done (at (Ending (record { number = n; total = i }))) b o (ends n i))
@@ -184,7 +184,7 @@ module _ (r : Role) (k : ℕ) (c : Case) (m : Bool) (b : Words) (o : Offer) wher
       go false e = rw e (else-fact _ _ _ _ refl refl refl refl refl)
 
   ending-fact : (n : Number) (i : ℕ) (f : First) (x y z t : Bool) → Fact (at (Ending (record { number = n; total = i }))) (record { first = f; block = x; RQs = y; alphas = z; turned = t }) (ending (record { number = n; total = i }) f) (done (at (Ending (record { number = n; total = i }))) b o (ending (record { number = n; total = i }) f))
-  unfolding done repetition
+  unfolding done stays
   ending-fact One i (Cs One) x y z t = ends-fact _ One i
   ending-fact Two i (Cs Two) x y z t = ends-fact _ Two i
   ending-fact One i (Cs Two) x y z t = else-fact _ _ _ _ refl refl refl refl refl
@@ -197,18 +197,18 @@ module _ (r : Role) (k : ℕ) (c : Case) (m : Bool) (b : Words) (o : Offer) wher
   ending-fact Two i Else x y z t = ends-fact _ Two i
 
   receiving-fact : (n : Number) (f : First) (x y z t : Bool) → Fact (at (Receiving n)) (record { first = f; block = x; RQs = y; alphas = z; turned = t }) (receiving n (record { first = f; block = x; RQs = y; alphas = z; turned = t })) (done (at (Receiving n)) b o (receiving n (record { first = f; block = x; RQs = y; alphas = z; turned = t })))
-  unfolding done repetition
+  unfolding done stays
   receiving-fact n f true y z t = else-fact _ _ _ _ refl refl refl (accepted-count _ n b o) (accepted-lost _ n b o)
   receiving-fact n f false y true t = else-fact _ _ _ _ refl refl refl refl refl
-  receiving-fact n f false y false t = again _ _ b o _ refl refl refl
+  receiving-fact n f false y false t = again _ _ b o _ refl refl
 
   asking-fact : (f : First) (x y z t : Bool) → Fact (at Asking) (record { first = f; block = x; RQs = y; alphas = z; turned = t }) (asking (record { first = f; block = x; RQs = y; alphas = z; turned = t })) (done (at Asking) b o (asking (record { first = f; block = x; RQs = y; alphas = z; turned = t })))
-  unfolding done repetition
+  unfolding done stays
   asking-fact f x y z true = else-fact _ _ _ _ refl refl refl refl refl
-  asking-fact f x y z false = again _ _ b o _ refl refl refl
+  asking-fact f x y z false = again _ _ b o _ refl refl
 
   row-fact : (p : Place) (h : Heard) → Fact (at p) h (rowOf r p h) (done (at p) b o (rowOf r p h))
-  unfolding done repetition
+  unfolding done stays
   row-fact (Sending x) h = sending-fact (x .number) (x .block) (h .first) (h .block) (h .RQs) (h .alphas) (h .turned)
   row-fact (Turning n) h = turning-fact n (h .first) (h .block) (h .RQs) (h .alphas) (h .turned)
   row-fact Opening h = opening-fact (h .first) (h .block) (h .RQs) (h .alphas) (h .turned)
@@ -218,7 +218,7 @@ module _ (r : Role) (k : ℕ) (c : Case) (m : Bool) (b : Words) (o : Offer) wher
   row-fact StandBy h = else-fact _ _ _ _ refl refl refl refl refl
   row-fact Lost h =
       record {
-        told = refl;
+        told = λ x. refl;
         stays-lost = λ l. (refl, refl);
         repeated = λ x. never (sym x);
         moved = λ x. refl;

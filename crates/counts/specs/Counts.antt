@@ -10,7 +10,6 @@ use Rattle.signals.specs.Numbers.{answered}
 use Rattle.mode_a.specs.declared.Station.{Station}
 use Rattle.mode_a.specs.declared.Reply.{Reply}
 use Rattle.mode_a.specs.Station.{silence}
-use Rattle.mode_a.specs.Heard.{heardOf}
 use Rattle.mode_a.specs.Step.{stepping}
 use Rattle.counts.specs.Runs.{Event, after, isLost, repetition, inARow}
 
@@ -21,7 +20,7 @@ pub record Counted (fresh : Station) (run : List Event) : Type 0 where
   -- Lost, it is 0
   pub lost-counts : isLost (after fresh run .place) ≡ true → after fresh run .count ≡ 0
   -- a step makes a station Lost exactly where it is the 32nd repetition in a row
-  pub lost-by-the-32nd : (e : Event) (r : Reply) → stepping (after fresh run) (e .burst) (e .offer) ≡ answered r → isLost (after fresh run .place) ≡ false → isLost (r .station .place) ≡ repetition (after fresh run .place) (heardOf (e .burst)) (r .station .place) && eqb (inARow fresh run) 31
+  pub lost-by-the-32nd : (e : Event) (r : Reply) → stepping (after fresh run) (e .burst) (e .offer) ≡ answered r → isLost (after fresh run .place) ≡ false → isLost (r .station .place) ≡ repetition (after fresh run) e && eqb (inARow fresh run) 31
   -- it is then silent, and takes no offer
   pub lost-is-silent : (e : Event) (r : Reply) → stepping (after fresh run) (e .burst) (e .offer) ≡ answered r → isLost (r .station .place) ≡ true → (r .sent ≡ silence) × (r .printed ≡ silence) × (r .taken ≡ false)
   -- and once Lost it stays so

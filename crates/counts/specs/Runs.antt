@@ -1,10 +1,10 @@
 -- 01, The station: "Repetition count: steps in a row, at Sending, Turning, Opening, Receiving or Asking, in which the station
 -- neither changes place, nor confirms, nor accepts."  R-096
 --
--- Whether a step is such a repetition is told from what was heard and from the places before and after it. The count is looked at
--- nowhere here.
+-- Whether a step is such a repetition is told from what was heard and from the place before it and the place that it leads to. The
+-- count that the station keeps is looked at nowhere here.
 -- Assumes nothing.
-use mathlib.Core.Bool.{Bool, true, false, not, _&&_, _||_}
+use mathlib.Core.Bool.{Bool, true, false, not, _&&_}
 use mathlib.Core.List.{List, [], _∷_}
 use Prim.Native.Nat.{ℕ, suc}
 use lib.Dec.{eqb}
@@ -88,18 +88,26 @@ accepting Lost h = false
 abbrev pub isLost : Place → Bool
 isLost p = eqb (placeNo p) 7
 
--- a repetition: at one of the five places, neither confirming nor accepting, and the place is the same afterwards, unless this is
--- the step that made the station Lost
-unfoldable pub repetition : Place → Heard → Place → Bool
-repetition p h p′ =
-    counting p && (not (confirms p h) && (not (accepting p h) && (not (changed p p′) || isLost p′)))
+-- at one of the five places, neither changing it for p′, nor confirming, nor accepting
+unfoldable pub stays : Place → Heard → Place → Bool
+stays p h p′ = counting p && (not (confirms p h) && (not (accepting p h) && not (changed p p′)))
+
+-- The time-out itself is no change of place: what counts is where the same burst and offer lead from a count of 0.
+abbrev pub uncounted : Station → Station
+uncounted s = record { role = s .role; place = s .place; count = 0; case = s .case; plus = s .plus }
+
+abbrev pub leadsTo : Station → Event → Place
+leadsTo s e = stationAfter (uncounted s) (stepping (uncounted s) (e .burst) (e .offer)) .place
+
+abbrev pub repetition : Station → Event → Bool
+repetition s e = stays (s .place) (heardOf (e .burst)) (leadsTo s e)
 
 -- how many repetitions in a row the run ends in; a refusal is no step and is passed over
-abbrev pub goesOn : Answer Reply → Place → Heard → ℕ → ℕ
-goesOn (answered r) p h k = if repetition p h (r .station .place) then suc k else 0
-goesOn (refused n v) p h k = k
+abbrev pub goesOn : Answer Reply → Bool → ℕ → ℕ
+goesOn (answered r) again k = if again then suc k else 0
+goesOn (refused n v) again k = k
 
 unfoldable pub inARow : Station → List Event → ℕ
 inARow s [] = 0
 inARow s (e ∷ es) =
-    goesOn (stepping (after s es) (e .burst) (e .offer)) (after s es .place) (heardOf (e .burst)) (inARow s es)
+    goesOn (stepping (after s es) (e .burst) (e .offer)) (repetition (after s es) e) (inARow s es)

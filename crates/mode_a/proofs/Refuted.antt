@@ -4,7 +4,8 @@
 --     no-constant-rq             one that always sends RQ
 --     no-first-step-again        one that is right at its first step and then repeats itself
 --     no-repeat-by-content       a repeat told by its content: two equal blocks in succession are two blocks
---     no-over-unaccepted         an over offered at Receiving acted on for a block that was not accepted
+--     no-over-unaccepted, no-cs3-unaccepted
+--                                an over offered at Receiving taken, or answered by CS3, for a block that was not accepted
 --     no-block-for-rq            Sending that sends the block again where RQ RQ RQ is due
 --     no-own-number-at-turning   Turning that asks for the number that its last block had
 --     no-order-3-4               a bad offer told before a bad station
@@ -15,7 +16,7 @@ use mathlib.Core.Bool.{Bool, true, false}
 use Prim.Native.Nat.{ℕ}
 use native.Mathlib.Omega.{arith}
 use Rattle.signals.specs.declared.Case.the-variants.{Letters}
-use Rattle.signals.specs.Meaning.{meaningOf, trafficOf}
+use Rattle.signals.specs.Meaning.{meaningOf, trafficOf, cs3}
 use Rattle.signals.specs.Numbers.{Answer, answered, refused, firstNot}
 use Rattle.mode_a.specs.declared.Role.the-variants.{Slave}
 use Rattle.mode_a.specs.declared.Number.the-variants.{One, Two}
@@ -26,12 +27,12 @@ use Rattle.mode_a.specs.declared.Offer.{Offer}
 use Rattle.mode_a.specs.declared.Station.{Station}
 use Rattle.mode_a.specs.declared.Reply.{Reply}
 use Rattle.mode_a.specs.declared.Stepped.{Stepped}
-use Rattle.mode_a.specs.Station.{words, silence, RQ×3, asksFor, freshSlave}
+use Rattle.mode_a.specs.Station.{words, single, silence, RQ×3, asksFor, freshSlave}
 use Rattle.mode_a.specs.Heard.{firstOf, mayHold, isBlock, isWords, heardOf}
 use Rattle.mode_a.specs.Over.{listened}
-use Rattle.mode_a.specs.Step.{trafficIn, done, sound, stepping, Steps}
+use Rattle.mode_a.specs.Step.{trafficIn, done, sound, stepping, saidStepped, Steps}
 
--- a slave that has accepted a block, and one at each place
+-- a slave at a place, with a count
 abbrev slaveAt : Place → ℕ → Station
 slaveAt p k = record { role = Slave; place = p; count = k; case = Letters; plus = false }
 
@@ -70,9 +71,10 @@ module _ (s : Station) (b : Words) (o : Offer) (r : Reply) (p : Steps s b o (Ste
 apart : true ≡ false → ⊥
 apart e = let z : _≡_ {A = ℕ} 0 1 = cc in omega arith
 
-pub no-refusing-station : (s : Station) → Steps freshSlave tea Offer.Nothing (Stepped.BadStation s) → ⊥
+-- whatever satisfies the promise there is no refusal, of any number
+pub no-refusing-station : (r : Stepped) → Steps freshSlave tea Offer.Nothing r → numberIn (saidStepped r) ≡ 0
 unfolding stepping sound heardOf firstOf mayHold trafficOf meaningOf isBlock isWords firstNot done listened trafficIn
-no-refusing-station s p = let z : _≡_ {A = ℕ} 4 0 = ap numberIn (p .0) in omega arith
+no-refusing-station r p = ap numberIn (p .0)
 
 pub no-constant-rq : (r : Reply) → r .sent ≡ RQ×3 → Steps freshSlave tea Offer.Nothing (Stepped.Done r) → ⊥
 unfolding stepping sound heardOf firstOf mayHold trafficOf meaningOf isBlock isWords firstNot done listened trafficIn
@@ -93,6 +95,11 @@ no-repeat-by-content r e p =
 pub no-over-unaccepted : (r : Reply) → r .taken ≡ true → Steps (slaveAt (Receiving One) 0) damaged Offer.Over (Stepped.Done r) → ⊥
 unfolding stepping sound heardOf firstOf mayHold trafficOf meaningOf isBlock isWords firstNot done listened trafficIn
 no-over-unaccepted r e p = apart (sym e ∙ ap takenIn (p .0))
+
+pub no-cs3-unaccepted : (r : Reply) → r .sent ≡ single cs3 → Steps (slaveAt (Receiving One) 0) damaged Offer.Over (Stepped.Done r) → ⊥
+unfolding stepping sound heardOf firstOf mayHold trafficOf meaningOf isBlock isWords firstNot done listened trafficIn
+no-cs3-unaccepted r e p =
+    let z : _≡_ {A = ℕ} 89 101 = sent-is (slaveAt (Receiving One) 0) damaged Offer.Over r p (single cs3) e in omega arith
 
 pub no-block-for-rq : (r : Reply) → r .sent ≡ tea → Steps (slaveAt (Sending (record { number = One; block = tea })) 0) silence Offer.Nothing (Stepped.Done r) → ⊥
 unfolding stepping sound heardOf firstOf mayHold trafficOf meaningOf isBlock isWords firstNot done listened trafficIn

@@ -91,7 +91,7 @@ ending e Else = endsAgain e
 -- Receiving "(awaits number n)"                                                                           R-073
 --     block      "Three intact words, each traffic or β: accepted" ..                   3.7.4 to 3.7.6    R-073 to R-079
 --     ααα        "ααα: ask for the other number, go to Stand-by."                       3.7.14.2          R-080
---     all else   "All else, any RQ included: ask for n again."                          3.7.4             R-081
+--     all else   "All else, any RQ included: ask for n again."                          3.7.5, 3.7.6      R-081
 abbrev pub receiving : Number → Heard → Doing
 receiving n h =
     if h .block then Accepts n else if h .alphas then Goes StandBy (asksFor (other n)) else Repeats (asksFor n)

@@ -94,7 +94,7 @@ pub struct Ended {
 //   Opening    -> Sending      CS1 or CS2 first, the offer taken under that number;  -> Stand-by at CS3
 //   Sending    -> Turning      CS3 first.      Sending, Opening -> Ending   where the offer taken is end
 //   Turning    -> Receiving    RQ RQ RQ (master), RQ first (slave).        Asking -> Opening   βαβ
-//   Receiving  -> Asking       over heard in the block, or offered;  -> Stand-by at ααα
+//   Receiving  -> Asking       a block accepted, and the over heard in it or offered;  -> Stand-by at ααα
 //   Ending     -> Stand-by     the other number's signal, or ααα sent four times.    All but Ending and Stand-by -> Lost   the 32nd repetition
 pub enum Place {
     Sending(Held),
@@ -188,7 +188,7 @@ impl Station {
         }
     }
 
-    // "A fresh slave is Receiving, awaits 1, and its first burst is CS1."
+    // "A fresh slave is Receiving, awaits 1, and its first burst is CS1": the caller sends `Number::One.asks()` before the first step.
     pub fn fresh_slave() -> Self
         ensures { λ r. ⌜ r ≡ freshSlave ⌝ }
     {

@@ -1,6 +1,7 @@
 -- A wrong sender and wrong receivers that have another shape than the right ones, so that no edit of one operand makes them. Of each,
 -- a call at which what the promise says is not what it would do: computed, not argued.
 --     no-refusing-sender     one that refuses every slot
+--     no-order-7-6-3         one that tells a slot past the last before a word that may not stand in the text
 --     no-printing-at-once    a receiver that prints from the first settled signal, and not from the first return or line feed
 --     no-last-lost           one that ends at two α in DX and prints nothing of the position before them
 -- Assumes nothing.
@@ -17,7 +18,7 @@ use Rattle.mode_b.specs.declared.Hearing.the-variants.{InPhase}
 use Rattle.mode_b.specs.declared.Receiver.{Receiver}
 use Rattle.mode_b.specs.declared.Heard.{Heard}
 use Rattle.mode_b.specs.declared.Received.{Received}
-use Rattle.mode_b.specs.Sender.{withBreaks, positionsOf, slotsFrom, slotsOf, slotting, Slots}
+use Rattle.mode_b.specs.Sender.{withBreaks, positionsOf, slotsFrom, slotsOf, slotting, saidSlot, Slots}
 use Rattle.mode_b.specs.Receiver.{settled, settledAlone, heardRx, heardDx, receiving, Receives}
 
 abbrev numberIn : Answer ℕ → ℕ
@@ -28,11 +29,17 @@ abbrev printedIn : Answer Heard → ℕ
 printedIn (answered h) = h .printed
 printedIn (refused n v) = 0
 
-pub no-refusing-sender : (n : ℕ) → Slots (86 ∷ []) 36 (Slot.PastLast n) → ⊥
+-- whatever satisfies the promise there is no refusal, of any number
+pub no-refusing-sender : (r : Slot) → Slots (86 ∷ []) 36 r → numberIn (saidSlot r) ≡ 0
 unfolding slotting slotsOf slotsFrom positionsOf withBreaks firstNot trafficOf meaningOf
-no-refusing-sender n p = let z : _≡_ {A = ℕ} 6 0 = ap numberIn p in omega arith
+no-refusing-sender r p = ap numberIn p
 
--- in phase, with E waiting and nothing printed yet
+-- a bad word told before a slot past the last
+pub no-order-7-6-3 : (n : ℕ) → Slots (51 ∷ []) 72 (Slot.PastLast n) → ⊥
+unfolding slotting firstNot trafficOf meaningOf
+no-order-7-6-3 n p = let z : _≡_ {A = ℕ} 6 3 = ap numberIn p in omega arith
+
+-- in phase, the first of the three DX words E
 abbrev waiting : Bool → ℕ → ℕ → Bool → Receiver
 waiting dx second third printing = record { hearing = InPhase (record { first = 86; second = second; third = third; dx = dx; printing = printing }) }
 

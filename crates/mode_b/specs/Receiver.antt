@@ -6,7 +6,7 @@ use Prim.Native.Nat.{ℕ, _+_}
 use lib.Dec.{eqb, ltb}
 use Rattle.laws.specs.Choice.{if_then_else_}
 use Rattle.signals.specs.Units.{intactOf}
-use Rattle.signals.specs.Meaning.{trafficOf, alpha, rq}
+use Rattle.signals.specs.Meaning.{trafficOf, alpha, rq, errorMark}
 use Rattle.signals.specs.Numbers.{Answer, answered, refused}
 use Rattle.mode_b.specs.declared.Phasing.{Phasing}
 use Rattle.mode_b.specs.declared.Phase.{Phase}
@@ -27,9 +27,6 @@ hears h = record { receiver = record { hearing = h }; printed = 0 }
 abbrev pub printsAt : Hearing → ℕ → Heard
 printsAt h w = record { receiver = record { hearing = h }; printed = w }
 
-abbrev pub errorMark : ℕ
-errorMark = 255
-
 -- "It searches until four intact signals in a row alternate α and RQ; RQ marks DX."  R-112, R-113. A run of k signals that ends in
 -- a phasing signal; the same signal again begins a new run, any other word ends it.
 abbrev pub sameSignal : Phasing → Phasing → Bool
@@ -42,6 +39,8 @@ abbrev pub runOf : ℕ → Phasing → Phasing → ℕ
 runOf k last now = if eqb k 0 || sameSignal last now then 1 else k + 1
 
 -- "Positions whose DX came before those four signals count as phasing."  R-114: at the fourth signal the three DX kept are RQ (after α the first of them is settled already).
+-- With an intact RX other than α such a position settles as an error and not as phasing: nothing is printed either way, since printing
+-- has not begun.
 -- After RQ an RX slot comes next, after α a DX slot. That step settles and prints nothing.
 abbrev pub isOne : Phasing → Bool
 isOne Phasing.One = true

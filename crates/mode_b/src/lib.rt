@@ -27,7 +27,7 @@ pub enum Phasing {
 }
 
 // A receiver in phase: the DX words of three positions, the oldest first, whether the next slot is a DX slot, and whether printing has
-// begun. The words are as they were heard, intact or not.
+// begun. The words are as they were heard, intact or not; as it comes into phase all three are RQ.
 pub struct Phase {
     pub first: u8,
     pub second: u8,

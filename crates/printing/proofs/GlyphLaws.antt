@@ -76,7 +76,7 @@ module _ (w : ℕ) where
         or-false true = refl
         or-false false = refl
 
--- the size of the glyph is the length of what the word prints, which is at most one byte
+-- the size of the glyph is the length of what the word prints, which is at most two bytes, as the laws of a walk ask (encoding has two)
 module _ (c : Case) (w : ℕ) (byte : w < 256) where
   pub sized : (g : ℕ) → g ≡ glyphOf c w → (n : ℕ) → n ≡ length (putOf g) → n ≡ length (bytesOf c w)
   sized g e n en = en ∙ ap (λ (g : ℕ). length (putOf g)) e ∙ ap (λ (l : List ℕ). length l) (glyph-prints c w byte)

@@ -8,8 +8,7 @@ use Rattle.signals.specs.declared.Case.{Case}
 use Rattle.signals.specs.declared.Case.the-variants.{Letters, Figures}
 use Rattle.signals.specs.declared.Row.{Row}
 use Rattle.signals.specs.Rows.{rowOf}
-use Rattle.signals.specs.Meaning.{meaningOf}
-use Rattle.text.specs.Printing.{errorMark}
+use Rattle.signals.specs.Meaning.{meaningOf, errorMark}
 
 -- the row's column for a case
 abbrev pub column : Case → Row → ℕ

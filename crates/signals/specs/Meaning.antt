@@ -56,3 +56,7 @@ cs2 = wordNo 32
 
 abbrev pub cs3 : ℕ
 cs3 = wordNo 14
+
+-- "The error mark is byte 255 in a list of signals": printing takes it, and a receiver of mode B prints it.  R-036, R-111
+abbrev pub errorMark : ℕ
+errorMark = 255

@@ -1,4 +1,4 @@
--- Printing is a walk, of at most one byte a signal, and answers in the order 7, 3, 2. Assumes nothing.
+-- Printing is a walk, and answers in the order 7, 3, 2. Assumes nothing.
 use mathlib.Core.Path.{_≡_, refl}
 use mathlib.Core.List.{List}
 use Prim.Native.Nat.{ℕ}

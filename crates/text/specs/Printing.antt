@@ -10,7 +10,7 @@ use Rattle.laws.specs.Choice.{if_then_else_}
 use Rattle.signals.specs.declared.Case.{Case}
 use Rattle.signals.specs.declared.Case.the-variants.{Letters, Figures}
 use Rattle.signals.specs.Signals.{Signal, pair, lone, free, mute, signals, wordOf}
-use Rattle.signals.specs.Meaning.{trafficOf, letters, figures}
+use Rattle.signals.specs.Meaning.{trafficOf, letters, figures, errorMark}
 use Rattle.signals.specs.Numbers.{Answer, answered, refused, firstNot}
 use Rattle.text.specs.declared.Printed.{Printed}
 use Rattle.text.specs.Written.{Written, Counted, counted, leaves}
@@ -32,11 +32,7 @@ abbrev pub printsIn : List Signal → Case → ℕ → List ℕ
 printsIn [] c w = []
 printsIn (s ∷ ss) c w = if eqb w (wordOf s) then prints c s else printsIn ss c w
 
--- "The error mark is byte 255 in a list of signals and prints 42."  R-036
-abbrev pub errorMark : ℕ
-errorMark = 255
-
--- what one word of the list prints in the case in force
+-- what one word of the list prints in the case in force. "The error mark is byte 255 in a list of signals and prints 42."  R-036
 unfoldable pub bytesOf : Case → ℕ → List ℕ
 bytesOf c w = if eqb w errorMark then 42 ∷ [] else printsIn signals c w
 
