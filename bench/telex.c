@@ -1,0 +1,652 @@
+/* Radio-telex logic after ITU-R M.625, as narrowed by paper 01: see telex.h. */
+
+#include "telex.h"
+
+#include <string.h>
+
+#if defined(__GNUC__)
+#define UNLIKELY(x) __builtin_expect(!!(x), 0)
+#define COLD __attribute__((cold, noinline))
+#else
+#define UNLIKELY(x) (x)
+#define COLD
+#endif
+
+/* --- The code --- */
+
+enum {
+    WORD_RETURN = 120, WORD_LINE_FEED = 108, WORD_LETTERS = 90,
+    WORD_FIGURES = 54, WORD_BLANK = WORD_CS2, WORD_PLUS = 99, WORD_QUERY = 114
+};
+
+/* The traffic signals but the shifts and blank, by sort: those with a letter and
+ * a figure; F, G and H, which have no figure; those that need no case.  Every
+ * table below is made from these lists. */
+#define SHIFTED_SIGNALS(SHIFTED) \
+    SHIFTED(1, 71, 'A', '-')    SHIFTED(2, 114, 'B', '?') \
+    SHIFTED(3, 29, 'C', ':')    SHIFTED(4, 83, 'D', 5) \
+    SHIFTED(5, 86, 'E', '3')    SHIFTED(9, 77, 'I', '8') \
+    SHIFTED(10, 23, 'J', 7)     SHIFTED(11, 30, 'K', '(') \
+    SHIFTED(12, 101, 'L', ')')  SHIFTED(13, 57, 'M', '.') \
+    SHIFTED(14, 89, 'N', ',')   SHIFTED(15, 113, 'O', '9') \
+    SHIFTED(16, 45, 'P', '0')   SHIFTED(17, 46, 'Q', '1') \
+    SHIFTED(18, 85, 'R', '4')   SHIFTED(19, 75, 'S', '\'') \
+    SHIFTED(20, 116, 'T', '5')  SHIFTED(21, 78, 'U', '7') \
+    SHIFTED(22, 60, 'V', '=')   SHIFTED(23, 39, 'W', '2') \
+    SHIFTED(24, 58, 'X', '/')   SHIFTED(25, 43, 'Y', '6') \
+    SHIFTED(26, 99, 'Z', '+')
+
+#define LETTER_SIGNALS(LETTER) \
+    LETTER(6, 27, 'F') LETTER(7, 53, 'G') LETTER(8, 105, 'H')
+
+#define PLAIN_SIGNALS(PLAIN) \
+    PLAIN(27, WORD_RETURN, 13) PLAIN(28, WORD_LINE_FEED, 10) PLAIN(31, 92, 32)
+
+#define SHIFTED(number, word, letter, figure) [word] = number,
+#define LETTER(number, word, letter) [word] = number,
+#define PLAIN(number, word, character) [word] = number,
+static const uint8_t MEANING[256] = {
+    SHIFTED_SIGNALS(SHIFTED) LETTER_SIGNALS(LETTER) PLAIN_SIGNALS(PLAIN)
+    [WORD_LETTERS] = 29, [WORD_FIGURES] = 30, [WORD_BLANK] = 32,
+    [WORD_ALPHA] = 33, [WORD_BETA] = 34, [WORD_RQ] = 35
+};
+#undef SHIFTED
+#undef LETTER
+#undef PLAIN
+
+uint8_t telex_meaning(uint8_t word)
+{
+    return MEANING[word];
+}
+
+/* --- Text --- */
+
+/* In the tables of encode and print, the top bit marks an entry of the ordinary
+ * way: the sign of several entries put together tells whether all are. */
+#define ORDINARY (UINT32_C(1) << 31)
+
+static inline unsigned all_ordinary(uint32_t entries)
+{
+    return entries >> 31;
+}
+
+static inline answer refused(unsigned number, size_t value)
+{
+    return (answer)number << 32 | (uint32_t)value;
+}
+
+/* What is to be written is known only at the end, and a refusal may write
+ * nothing: one pass into a room of our own and one copy cost less than a pass to
+ * judge and a pass to write, and no store can spoil a byte behind the last. */
+static inline answer hand_over(const uint8_t *own, size_t count, unsigned ends_in,
+                               uint8_t *room, size_t room_length)
+{
+    if (UNLIKELY(count > room_length))
+        return refused(2, count);
+    if (count != 0)
+        memcpy(room, own, count);
+    return (answer)ends_in << 40 | count;
+}
+
+/* Of a character: its word; the shift it needs; in bit 16 whether it leaves the
+ * case as it is; in bit 24 whether it needs figures.  0 for a byte without a
+ * signal. */
+#define IN_CASE(word, shift) (ORDINARY | (uint32_t)(shift) << 8 | (word))
+#define SHIFTED(number, word, letter, figure) \
+    [letter] = IN_CASE(word, WORD_LETTERS), \
+    [figure] = IN_CASE(word, WORD_FIGURES) | UINT32_C(1) << 24,
+#define LETTER(number, word, letter) [letter] = IN_CASE(word, WORD_LETTERS),
+#define PLAIN(number, word, character) \
+    [character] = IN_CASE(word, 0) | UINT32_C(1) << 16,
+static const uint32_t SIGNAL[256] = {
+    SHIFTED_SIGNALS(SHIFTED) LETTER_SIGNALS(LETTER) PLAIN_SIGNALS(PLAIN)
+};
+#undef SHIFTED
+#undef LETTER
+#undef PLAIN
+
+/* The case while encoding: bit 0, with the ORDINARY bit of the entries in bit 7. */
+enum { ENCODING = 0x80 };
+
+/* The shift is always written; where it is not needed the word goes over it. */
+static inline unsigned put_signal(uint8_t *own, size_t *count, unsigned now,
+                                  uint32_t entry)
+{
+    unsigned next = (now & entry >> 16) | entry >> 24;
+
+    own[*count] = (uint8_t)(entry >> 8);
+    *count += now ^ next;
+    own[*count] = (uint8_t)entry;
+    *count += 1;
+    return next;
+}
+
+COLD static answer without_signal(const uint8_t *text)
+{
+    size_t index = 0;
+
+    while (SIGNAL[text[index]] != 0)
+        index++;
+    return refused(1, index);
+}
+
+answer telex_encode(const uint8_t *text, size_t length, unsigned start_case,
+                    uint8_t *room, size_t room_length)
+{
+    uint8_t own[2 * MOST_CHARACTERS];
+    unsigned now = ENCODING | (start_case != LETTERS_CASE);
+    size_t count = 0;
+    size_t i = 0;
+
+    if (UNLIKELY(length > MOST_CHARACTERS))
+        return refused(5, MOST_CHARACTERS);
+    for (; length - i >= 4; i += 4) {
+        uint32_t e0 = SIGNAL[text[i]], e1 = SIGNAL[text[i + 1]];
+        uint32_t e2 = SIGNAL[text[i + 2]], e3 = SIGNAL[text[i + 3]];
+
+        if (UNLIKELY(!all_ordinary(e0 & e1 & e2 & e3)))
+            return without_signal(text);
+        now = put_signal(own, &count, now, e0);
+        now = put_signal(own, &count, now, e1);
+        now = put_signal(own, &count, now, e2);
+        now = put_signal(own, &count, now, e3);
+    }
+    for (; i < length; i++) {
+        uint32_t entry = SIGNAL[text[i]];
+
+        if (UNLIKELY(entry == 0))
+            return refused(1, i);
+        now = put_signal(own, &count, now, entry);
+    }
+    return hand_over(own, count, now & 1, room, room_length);
+}
+
+/* Of a word, in each case: the byte it prints, and in bit 8 whether it prints
+ * one.  OTHER_CASE hands on to the other table.  0 for a word that may not be
+ * printed. */
+#define PRINTS(byte) (ORDINARY | UINT32_C(1) << 8 | (byte))
+#define PRINTS_NOTHING ORDINARY
+#define OTHER_CASE UINT32_C(1)
+
+#define SHIFTED(number, word, letter, figure) [word] = PRINTS(letter),
+#define LETTER(number, word, letter) [word] = PRINTS(letter),
+#define PLAIN(number, word, character) [word] = PRINTS(character),
+static const uint32_t IN_LETTERS[256] = {
+    SHIFTED_SIGNALS(SHIFTED) LETTER_SIGNALS(LETTER) PLAIN_SIGNALS(PLAIN)
+    [WORD_LETTERS] = PRINTS_NOTHING, [WORD_FIGURES] = OTHER_CASE,
+    [WORD_BLANK] = PRINTS_NOTHING, [WORD_ERROR] = PRINTS('*')
+};
+#undef SHIFTED
+#undef LETTER
+
+#define SHIFTED(number, word, letter, figure) [word] = PRINTS(figure),
+#define LETTER(number, word, letter) [word] = PRINTS('#'),
+static const uint32_t IN_FIGURES[256] = {
+    SHIFTED_SIGNALS(SHIFTED) LETTER_SIGNALS(LETTER) PLAIN_SIGNALS(PLAIN)
+    [WORD_LETTERS] = OTHER_CASE, [WORD_FIGURES] = PRINTS_NOTHING,
+    [WORD_BLANK] = PRINTS_NOTHING, [WORD_ERROR] = PRINTS('*')
+};
+#undef SHIFTED
+#undef LETTER
+#undef PLAIN
+
+static inline void put_byte(uint8_t *own, size_t *count, uint32_t entry)
+{
+    own[*count] = (uint8_t)entry;
+    *count += entry >> 8 & 0xFF;
+}
+
+/* One case: prints on from word i up to a shift to the other case, and steps
+ * over that, or to the end.  Answers the last entry met. */
+static inline uint32_t print_in(const uint32_t *table, const uint8_t *words,
+                                size_t length, size_t *i, uint8_t *own,
+                                size_t *count)
+{
+    uint32_t entry = ORDINARY;
+
+    for (; length - *i >= 4; *i += 4) {
+        uint32_t e0 = table[words[*i]], e1 = table[words[*i + 1]];
+        uint32_t e2 = table[words[*i + 2]], e3 = table[words[*i + 3]];
+
+        if (!all_ordinary(e0 & e1 & e2 & e3))
+            break;
+        put_byte(own, count, e0);
+        put_byte(own, count, e1);
+        put_byte(own, count, e2);
+        put_byte(own, count, e3);
+    }
+    for (; *i < length; *i += 1) {
+        entry = table[words[*i]];
+        if (!all_ordinary(entry))
+            break;
+        put_byte(own, count, entry);
+    }
+    return entry;
+}
+
+answer telex_print(const uint8_t *words, size_t length, unsigned start_case,
+                   uint8_t *room, size_t room_length)
+{
+    uint8_t own[MOST_SIGNALS];
+    size_t count = 0;
+    size_t i = 0;
+    uint32_t entry;
+
+    if (UNLIKELY(length > MOST_SIGNALS))
+        return refused(7, MOST_SIGNALS);
+    if (start_case != LETTERS_CASE)
+        goto figures;
+
+letters:
+    entry = print_in(IN_LETTERS, words, length, &i, own, &count);
+    if (all_ordinary(entry))
+        return hand_over(own, count, LETTERS_CASE, room, room_length);
+    if (UNLIKELY(entry == 0))
+        return refused(3, i);
+    i++;
+
+figures:
+    entry = print_in(IN_FIGURES, words, length, &i, own, &count);
+    if (all_ordinary(entry))
+        return hand_over(own, count, FIGURES_CASE, room, room_length);
+    if (UNLIKELY(entry == 0))
+        return refused(3, i);
+    i++;
+    goto letters;
+}
+
+/* --- Mode A --- */
+
+#define THREE(a, b, c) \
+    ((uint32_t)(a) | (uint32_t)(b) << 8 | (uint32_t)(c) << 16)
+
+#define ALPHAS THREE(WORD_ALPHA, WORD_ALPHA, WORD_ALPHA)
+#define BETAS THREE(WORD_BETA, WORD_BETA, WORD_BETA)
+#define RQS THREE(WORD_RQ, WORD_RQ, WORD_RQ)
+#define TURN THREE(WORD_BETA, WORD_ALPHA, WORD_BETA)
+#define OVER THREE(WORD_FIGURES, WORD_PLUS, WORD_QUERY)
+
+enum { MOST_COUNT = 31, MOST_ENDS = 4 };
+
+/* What a word of an accepted block does to what was heard.  HEARD_FIGURES,
+ * HEARD_PLUS and HEARD_OVER make eight states; byte s of a word's entry holds the
+ * state after state s, times eight, so that it is the shift into the next word's
+ * entry.  The top bit marks the words that may stand in a block (traffic, beta),
+ * the one below it marks beta; both are outside STATE, in every byte.  0 for the
+ * rest. */
+enum { HEARD_OVER = 4, STATE = 0x38 };
+
+#define AFTER(s0, s1, s2, s3, s4, s5, s6, s7) \
+    (UINT64_C(0x8080808080808080) \
+     | (uint64_t)(s0) << 3 | (uint64_t)(s1) << 11 | (uint64_t)(s2) << 19 \
+     | (uint64_t)(s3) << 27 | (uint64_t)(s4) << 35 | (uint64_t)(s5) << 43 \
+     | (uint64_t)(s6) << 51 | (uint64_t)(s7) << 59)
+#define AFTER_ANY_OTHER AFTER(0, 1, 0, 1, 4, 5, 4, 5)
+
+#define SHIFTED(number, word, letter, figure) \
+    [word] = (word) == WORD_PLUS ? AFTER(0, 3, 0, 3, 4, 7, 4, 7) \
+             : (word) == WORD_QUERY ? AFTER(0, 1, 0, 5, 4, 5, 4, 5) \
+             : AFTER_ANY_OTHER,
+#define LETTER(number, word, letter) [word] = AFTER_ANY_OTHER,
+#define PLAIN(number, word, character) [word] = AFTER_ANY_OTHER,
+static const uint64_t HEAR[256] = {
+    SHIFTED_SIGNALS(SHIFTED) LETTER_SIGNALS(LETTER) PLAIN_SIGNALS(PLAIN)
+    [WORD_LETTERS] = AFTER(0, 0, 0, 0, 4, 4, 4, 4),
+    [WORD_FIGURES] = AFTER(1, 1, 1, 1, 5, 5, 5, 5),
+    [WORD_BLANK] = AFTER_ANY_OTHER,
+    [WORD_BETA] = AFTER(0, 1, 2, 3, 4, 5, 6, 7) | UINT64_C(0x4040404040404040)
+};
+#undef SHIFTED
+#undef LETTER
+#undef PLAIN
+
+static inline uint64_t entry_of(uint32_t burst, unsigned index)
+{
+    return HEAR[burst >> 8 * index & 0xFF];
+}
+
+/* Whether all three words may stand in a block. */
+static inline unsigned is_block(uint32_t burst)
+{
+    return (unsigned)((entry_of(burst, 0) & entry_of(burst, 1)
+                       & entry_of(burst, 2)) >> 63);
+}
+
+static inline uint32_t control(unsigned second)
+{
+    return WORD_CS1 + (WORD_CS2 - WORD_CS1) * second;
+}
+
+struct station telex_fresh_master(void)
+{
+    return (struct station){ .place = PLACE_OPENING };
+}
+
+struct station telex_fresh_slave(void)
+{
+    return (struct station){ .place = PLACE_RECEIVING, .slave = 1 };
+}
+
+/* Which refusal it is, in 01's order. */
+COLD static step_answer step_refused(const struct station *station, uint32_t offer)
+{
+    unsigned index = 0;
+
+    if (station->count > MOST_COUNT
+        || (station->place == PLACE_SENDING && !is_block(station->held))
+        || (station->place == PLACE_ENDING
+            && (station->total < 1 || station->total > MOST_ENDS)))
+        return (step_answer)4 << 24;
+    while (index < 2 && entry_of(offer, index) != 0)
+        index++;
+    return (step_answer)index << 56 | (step_answer)3 << 24;
+}
+
+/* At the same place, nothing confirmed or accepted: the 32nd is Lost. */
+static inline step_answer again(struct station *station, uint32_t burst)
+{
+    unsigned count = station->count + 1u;
+
+    if (UNLIKELY(count > MOST_COUNT)) {
+        station->place = PLACE_LOST;
+        count = 0;
+        burst = 0;
+    }
+    station->count = (uint8_t)count;
+    return burst;
+}
+
+static inline step_answer moves(struct station *station, unsigned place,
+                                uint32_t burst)
+{
+    station->place = (uint8_t)place;
+    station->count = 0;
+    return burst;
+}
+
+/* Text gives that block, nothing beta beta beta, over figures + ?, end alpha
+ * alpha alpha and Ending. */
+static inline step_answer takes(struct station *station, uint32_t offer,
+                                unsigned second)
+{
+    static const uint32_t GIVEN[4] = { BETAS, 0, OVER, ALPHAS };
+    static const uint32_t WORDS[4] = { 0, 0xFFFFFF, 0, 0 };
+    unsigned kind = offer >> 24 & 3;
+    uint32_t block = GIVEN[kind] | (offer & WORDS[kind]);
+
+    station->held = block;
+    station->place = kind == OFFER_END ? PLACE_ENDING : PLACE_SENDING;
+    station->second = (uint8_t)second;
+    station->total = 1;
+    station->count = 0;
+    return (step_answer)1 << 56 | block;
+}
+
+/* The words of an accepted block but beta, moved up. */
+COLD static uint32_t without_beta(uint32_t burst)
+{
+    uint32_t words = 0;
+
+    for (int shift = 16; shift >= 0; shift -= 8) {
+        uint32_t word = burst >> shift & 0xFF;
+
+        if (word != WORD_BETA)
+            words = words << 8 | word;
+    }
+    return words;
+}
+
+step_answer telex_step(struct station *station, uint32_t burst, uint32_t offer)
+{
+    unsigned first = burst & 0xFF;
+    unsigned second = station->second;
+    unsigned other = second ^ 1;
+
+    if (UNLIKELY((station->count > MOST_COUNT)
+                 | ((offer >> 24 == OFFER_TEXT) & !is_block(offer))))
+        return step_refused(station, offer);
+
+    switch (station->place) {
+    case PLACE_SENDING:
+        if (UNLIKELY(!is_block(station->held)))
+            return step_refused(station, offer);
+        if (first == control(other))
+            return takes(station, offer, other);
+        if (first == control(second))
+            return again(station, station->held);
+        if (first == WORD_CS3)
+            return moves(station, PLACE_TURNING, TURN);
+        return again(station, RQS);
+
+    case PLACE_TURNING:
+        if (station->slave ? first == WORD_RQ : burst == RQS) {
+            station->second = (uint8_t)other;
+            station->heard &= HEARD_FIGURES;
+            return moves(station, PLACE_RECEIVING, control(other));
+        }
+        return again(station, first == WORD_CS3 ? TURN : RQS);
+
+    case PLACE_OPENING:
+        if (first == WORD_CS1 || first == WORD_CS2)
+            return takes(station, offer, first == WORD_CS2);
+        if (first == WORD_CS3)
+            return moves(station, PLACE_STANDBY, 0);
+        return again(station, station->slave ? RQS : WORD_RQ);
+
+    case PLACE_ENDING:
+        if (UNLIKELY(station->total - 1u >= MOST_ENDS))
+            return step_refused(station, offer);
+        if (first == control(other) || station->total == MOST_ENDS)
+            return moves(station, PLACE_STANDBY, 0);
+        station->total++;
+        return moves(station, PLACE_ENDING, ALPHAS);
+
+    case PLACE_RECEIVING: {
+        uint64_t e0 = entry_of(burst, 0);
+        uint64_t e1 = entry_of(burst, 1);
+        uint64_t e2 = entry_of(burst, 2);
+
+        if ((e0 & e1 & e2) >> 63) {
+            unsigned over = offer >> 24 == OFFER_OVER;
+            uint32_t printed = burst == BETAS ? 0 : burst;
+            unsigned state = (station->heard & 3u) << 3;
+            unsigned turns;
+
+            state = (unsigned)(e0 >> state) & STATE;
+            state = (unsigned)(e1 >> state) & STATE;
+            state = (unsigned)(e2 >> state) & STATE;
+            if (UNLIKELY(((e0 | e1 | e2) >> 62 & 1) & (printed != 0)))
+                printed = without_beta(burst);
+            turns = over | state >> 5;
+            station->heard = state >> 3 & 3;
+            station->second = (uint8_t)other;
+            station->count = 0;
+            station->place = (uint8_t)(PLACE_RECEIVING + turns);    /* or Asking */
+            return (step_answer)over << 56 | (step_answer)printed << 32
+                   | (turns ? WORD_CS3 : control(other));
+        }
+        if (burst == ALPHAS)
+            return moves(station, PLACE_STANDBY, control(other));
+        return again(station, control(second));
+    }
+
+    case PLACE_ASKING:
+        if (burst == TURN) {
+            station->heard &= HEARD_FIGURES;
+            return moves(station, PLACE_OPENING, station->slave ? RQS : WORD_RQ);
+        }
+        return again(station, WORD_CS3);
+
+    default:
+        station->count = 0;
+        return 0;
+    }
+}
+
+/* --- Mode B, the sender --- */
+
+/* 16 phasing positions; stretches of 96 traffic and 4 phasing positions, the last
+ * one short; 17 alpha positions. */
+enum { LEAD = 16, TRAFFIC = 96, BREAK = 4, STRETCH = TRAFFIC + BREAK, TAIL = 17 };
+
+/* Nonzero where one of the words is no traffic signal.  The first loop is plain
+ * arithmetic on bytes, alike for every word, for the compiler to do sixteen at a
+ * time: with the lowest one taken away three times a single one must be left,
+ * and not in bit 7. */
+static inline unsigned judge(const uint8_t *text, size_t length)
+{
+    size_t whole = length & ~(size_t)15;
+    uint8_t bad = 0;
+    unsigned bad_behind = 0;
+
+    for (size_t i = 0; i < whole; i++) {
+        uint8_t word = text[i];
+        uint8_t less1 = word & (uint8_t)(word - 1);
+        uint8_t less2 = less1 & (uint8_t)(less1 - 1);
+        uint8_t less3 = less2 & (uint8_t)(less2 - 1);
+
+        bad |= less3 & (uint8_t)(less3 - 1);
+        bad |= (less3 == 0) | (less3 > 127) | (word == WORD_ALPHA)
+               | (word == WORD_BETA) | (word == WORD_RQ) ? 255 : 0;
+    }
+    for (size_t i = whole; i < length; i++)
+        bad_behind |= MEANING[text[i]] - 1u;
+    return bad | bad_behind >> 5;
+}
+
+COLD static answer no_traffic(const uint8_t *text)
+{
+    size_t index = 0;
+
+    while (MEANING[text[index]] - 1u < 32)
+        index++;
+    return refused(3, index);
+}
+
+answer telex_slot(const uint8_t *text, size_t length, uint32_t number)
+{
+    uint32_t traffic, positions, slots, position, stretch;
+
+    if (UNLIKELY(length > MOST_SIGNALS))
+        return refused(7, MOST_SIGNALS);
+    if (UNLIKELY(judge(text, length)))
+        return no_traffic(text);
+
+    /* From return to the last traffic position, breaks included. */
+    traffic = (uint32_t)length + 2;
+    positions = traffic + (traffic - 1) / TRAFFIC * BREAK;
+    slots = 2 * (LEAD + positions + TAIL);
+    if (UNLIKELY(number >= slots))
+        return refused(6, slots);
+
+    /* RX is two positions behind DX.  Counted from return, the lead wraps round,
+     * and so do slots 1 and 3, which carry what a phasing position does. */
+    position = number / 2 - 2 * (number & 1) - LEAD;
+    stretch = position / STRETCH;
+    if (position >= positions)
+        return number % 2 == 0 && number < 2 * LEAD ? WORD_RQ : WORD_ALPHA;
+    if (position - stretch * STRETCH >= TRAFFIC)
+        return number % 2 == 0 ? WORD_RQ : WORD_ALPHA;
+    position -= stretch * BREAK;
+    if (position < 2)
+        return position == 0 ? WORD_RETURN : WORD_LINE_FEED;
+    return text[position - 2];
+}
+
+/* --- Mode B, the receiver --- */
+
+/* The word where it is intact, otherwise 0. */
+#define SHIFTED(number, word, letter, figure) [word] = word,
+#define LETTER(number, word, letter) [word] = word,
+#define PLAIN(number, word, character) [word] = word,
+static const uint8_t INTACT[256] = {
+    SHIFTED_SIGNALS(SHIFTED) LETTER_SIGNALS(LETTER) PLAIN_SIGNALS(PLAIN)
+    [WORD_LETTERS] = WORD_LETTERS, [WORD_FIGURES] = WORD_FIGURES,
+    [WORD_BLANK] = WORD_BLANK,
+    [WORD_ALPHA] = WORD_ALPHA, [WORD_BETA] = WORD_BETA, [WORD_RQ] = WORD_RQ
+};
+#undef SHIFTED
+#undef LETTER
+#undef PLAIN
+
+/* Of a settled signal, 0 for an error: what it prints once printing has begun,
+ * and above that 255 where printing begins with it.  The service signals print
+ * nothing, and RQ stands for phasing too. */
+enum { SETTLED_ERROR = 0, SETTLED_PHASING = WORD_RQ };
+
+#define SHIFTED(number, word, letter, figure) [word] = word,
+#define LETTER(number, word, letter) [word] = word,
+static const uint16_t SETTLED[256] = {
+    SHIFTED_SIGNALS(SHIFTED) LETTER_SIGNALS(LETTER)
+    [WORD_RETURN] = 0xFF00 | WORD_RETURN, [WORD_LINE_FEED] = 0xFF00 | WORD_LINE_FEED,
+    [92] = 92, [WORD_LETTERS] = WORD_LETTERS, [WORD_FIGURES] = WORD_FIGURES,
+    [WORD_BLANK] = WORD_BLANK, [SETTLED_ERROR] = WORD_ERROR
+};
+#undef SHIFTED
+#undef LETTER
+
+struct receiver telex_fresh_receiver(void)
+{
+    return (struct receiver){ 0, PHASE_SEARCHING, 0, 0, 0 };
+}
+
+static inline unsigned prints(struct receiver *receiver, unsigned settled)
+{
+    unsigned entry = SETTLED[settled];
+    unsigned printing = receiver->printing | entry >> 8;
+
+    receiver->printing = (uint8_t)printing;
+    return entry & printing;
+}
+
+static inline unsigned searches(struct receiver *receiver, unsigned word)
+{
+    unsigned run = 0;
+
+    if (UNLIKELY(receiver->run > 3))
+        return RECEIVE_REFUSED;
+    if (word == WORD_ALPHA || word == WORD_RQ) {
+        run = receiver->run != 0 && word != receiver->last ? receiver->run + 1u : 1;
+        if (run == 4) {
+            receiver->waiting = RQS;
+            receiver->phase = word == WORD_RQ ? PHASE_RX : PHASE_DX;
+            receiver->printing = 0;
+            return 0;
+        }
+    }
+    receiver->run = (uint8_t)run;
+    receiver->last = (uint8_t)word;
+    return 0;
+}
+
+unsigned telex_receive(struct receiver *receiver, uint8_t word)
+{
+    unsigned heard = INTACT[word];
+    uint32_t waiting = receiver->waiting;
+
+    if (receiver->phase == PHASE_RX) {
+        unsigned first = waiting >> 16 & 0xFF;
+        unsigned both = first & heard;
+        unsigned settled = first | heard;
+
+        /* Two intact words have a one in common, being four of seven each: they
+         * differ where `both` is neither nothing nor all. */
+        if (both - 1 < settled - 1)
+            settled = first == WORD_RQ && heard == WORD_ALPHA
+                      ? SETTLED_PHASING : SETTLED_ERROR;
+        receiver->phase = PHASE_DX;
+        return prints(receiver, settled);
+    }
+    if (receiver->phase == PHASE_DX) {
+        waiting = waiting << 8 | heard;
+        if (UNLIKELY((waiting & 0xFFFF) == (WORD_ALPHA << 8 | WORD_ALPHA))) {
+            receiver->phase = PHASE_SEARCHING;
+            receiver->run = 0;
+            return prints(receiver, waiting >> 16 & 0xFF);
+        }
+        receiver->waiting = waiting;
+        receiver->phase = PHASE_RX;
+        return 0;
+    }
+    return searches(receiver, word);
+}

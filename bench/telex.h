@@ -1,0 +1,123 @@
+/* Radio-telex logic after ITU-R M.625 (SITOR), as narrowed by paper 01.
+ *
+ * A word is a byte, the unit sent first in bit 0.  A burst is three words in a
+ * uint32_t, the first word in the low byte, the top byte zero.
+ *
+ * A call that can refuse answers 01's number (0: not refused) and the value
+ * beside it.  A refusal changes nothing: no byte of a lent room, no field of a
+ * station or receiver.  Answers are packed into 64 bits, so that they come back
+ * in a register; the functions beside each call take them apart. */
+#ifndef TELEX_H
+#define TELEX_H
+
+#include <stddef.h>
+#include <stdint.h>
+
+enum {
+    WORD_ALPHA = 15, WORD_BETA = 51, WORD_RQ = 102,
+    WORD_CS1 = 101, WORD_CS2 = 106, WORD_CS3 = 89,
+    WORD_ERROR = 255                    /* the error mark in a list of signals */
+};
+
+enum { LETTERS_CASE = 0, FIGURES_CASE = 1 };
+
+enum { MOST_CHARACTERS = 4096, MOST_SIGNALS = 8192 };
+
+static inline uint32_t burst_of(uint8_t first, uint8_t second, uint8_t third)
+{
+    return (uint32_t)first | (uint32_t)second << 8 | (uint32_t)third << 16;
+}
+
+/* --- The code --- */
+
+/* The number of the signal, 1 to 35; 0 for a mutilated word. */
+uint8_t telex_meaning(uint8_t word);
+
+/* --- Text, and the slots of mode B --- */
+
+/* Bits 0 to 31: how many bytes were written, or the word of the slot; where
+ * refused, the value.  Bits 32 to 39: the refusal.  Bit 40: the case it ends in. */
+typedef uint64_t answer;
+
+static inline uint32_t answer_value(answer given) { return (uint32_t)given; }
+static inline unsigned answer_refusal(answer given) { return (uint8_t)(given >> 32); }
+static inline unsigned answer_case(answer given) { return (unsigned)(given >> 40); }
+
+/* Refusals 5, 1, 2. */
+answer telex_encode(const uint8_t *text, size_t length, unsigned start_case,
+                    uint8_t *room, size_t room_length);
+
+/* Refusals 7, 3, 2. */
+answer telex_print(const uint8_t *words, size_t length, unsigned start_case,
+                   uint8_t *room, size_t room_length);
+
+/* Refusals 7, 3, 6. */
+answer telex_slot(const uint8_t *text, size_t length, uint32_t number);
+
+/* --- Mode A --- */
+
+enum {
+    PLACE_SENDING, PLACE_TURNING, PLACE_OPENING, PLACE_ENDING,
+    PLACE_RECEIVING, PLACE_ASKING, PLACE_STANDBY, PLACE_LOST
+};
+
+enum { HEARD_FIGURES = 1, HEARD_PLUS = 2 };
+
+/* A field that the place does not carry has no meaning and is not cleared. */
+struct station {
+    uint32_t held;      /* Sending: the block */
+    uint8_t place;
+    uint8_t second;     /* Sending, Turning, Ending, Receiving: 0 number 1, 1 number 2 */
+    uint8_t total;      /* Ending: how often alpha alpha alpha was sent */
+    uint8_t count;      /* the repetition count */
+    uint8_t heard;      /* of what is received: HEARD_FIGURES, HEARD_PLUS */
+    uint8_t slave;      /* 0 master, 1 slave */
+};
+
+/* An offer: its kind in the top byte, the words of a text below. */
+enum { OFFER_NOTHING, OFFER_TEXT, OFFER_OVER, OFFER_END };
+
+static inline uint32_t offer_of(unsigned kind, uint32_t words)
+{
+    return (uint32_t)kind << 24 | words;
+}
+
+/* Bits 0 to 23: the burst to send.  Bits 24 to 31: the refusal.  Bits 32 to 55:
+ * up to three printed words in order, then 0.  Bits 56 to 63: whether the offer
+ * was taken; where refused, the value. */
+typedef uint64_t step_answer;
+
+static inline uint32_t step_sent(step_answer given) { return (uint32_t)given & 0xFFFFFF; }
+static inline unsigned step_refusal(step_answer given) { return (uint32_t)given >> 24; }
+static inline uint32_t step_printed(step_answer given) { return given >> 32 & 0xFFFFFF; }
+static inline unsigned step_taken(step_answer given) { return (unsigned)(given >> 56); }
+static inline unsigned step_value(step_answer given) { return (unsigned)(given >> 56); }
+
+struct station telex_fresh_master(void);
+struct station telex_fresh_slave(void);     /* its first burst is CS1 */
+
+/* Refusals 4, 3. */
+step_answer telex_step(struct station *station, uint32_t burst, uint32_t offer);
+
+/* --- The receiver of mode B --- */
+
+enum { PHASE_SEARCHING, PHASE_DX, PHASE_RX };
+
+struct receiver {
+    uint32_t waiting;   /* in phase: the last DX words, the latest in the low
+                           byte; 0 stands for a mutilated one */
+    uint8_t phase;      /* searching, or what the next slot is */
+    uint8_t run;        /* searching: how many in a row alternate, 0 to 3 */
+    uint8_t last;       /* searching, run over 0: the last of them, alpha or RQ */
+    uint8_t printing;   /* in phase: 255 once printing has begun, before that 0 */
+};
+
+/* What telex_receive answers for refusal 4 0. */
+enum { RECEIVE_REFUSED = 0x400 };
+
+struct receiver telex_fresh_receiver(void);
+
+/* The signal printed, 255 for an error mark, 0 for none; or RECEIVE_REFUSED. */
+unsigned telex_receive(struct receiver *receiver, uint8_t word);
+
+#endif

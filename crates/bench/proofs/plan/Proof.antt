@@ -1,0 +1,56 @@
+-- `bench::plan` is safe and ends. Assumes nothing.
+use mathlib.Core.Path.{_≡_}
+use Prim.Native.Nat.{_-_, _≤_}
+use lib.ListN.{length}
+use borrow.Author.Needs.{needs}
+use Rattle.bench.proofs.plan.Statement.{statement}
+use Rattle.bench.proofs.plan.Tie as tie
+
+abbrev Inv-loop : tie.InvT-loop
+Inv-loop steps₀ g₀ j₀ steps g j = (j ≤ length steps) × (length steps ≡ length steps₀)
+
+abbrev μ-loop : tie.MeasureT-loop
+μ-loop steps₀ g₀ j₀ steps g j = length steps - j
+
+loop-holds : tie.Need-loop-holds Inv-loop μ-loop
+loop-holds c = search needs
+
+next-requires : tie.Need-next-requires Inv-loop μ-loop
+next-requires c κs = search needs
+
+planned-requires : tie.Need-planned-requires Inv-loop μ-loop
+planned-requires c κs = search needs
+
+put-requires : tie.Need-put-requires Inv-loop μ-loop
+put-requires c κs = search needs
+
+add-j : tie.Need-add-j Inv-loop μ-loop
+add-j c = search needs
+
+loop-less : tie.Need-loop-less Inv-loop μ-loop
+loop-less c = search needs
+
+loop-again : tie.Need-loop-again Inv-loop μ-loop
+loop-again c = search needs
+
+same-length : tie.Need-same-length Inv-loop μ-loop
+same-length c = search needs
+
+returns : tie.Need-returns Inv-loop μ-loop
+returns c = search needs
+
+pub plan-spec : {M : Type 1} → statement M
+plan-spec =
+    tie.close
+    (tie.spec
+    Inv-loop
+    μ-loop
+    loop-holds
+    next-requires
+    planned-requires
+    put-requires
+    add-j
+    loop-less
+    loop-again
+    same-length
+    returns)

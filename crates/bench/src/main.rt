@@ -1,0 +1,710 @@
+// Runs one call many times on pseudo-random input and writes a check-sum of its answers (docs/COST.md, docs/FORMATS.md).
+use mode_a::Offer;
+use mode_a::Place;
+use mode_a::Reply;
+use mode_a::Role;
+use mode_a::Station;
+use mode_a::Stepped;
+use mode_a::Words;
+use mode_b::Hearing;
+use mode_b::Phasing;
+use mode_b::Received;
+use mode_b::Receiver;
+use mode_b::Slot;
+use signals::Case;
+use text::Encoded;
+use text::Printed;
+ghost use Prim.Native.Nat.{_<_};
+
+// Every character that has a signal, and every traffic signal, both ascending.
+const ALPHABET: [u8; 52] = [
+    5,
+    7,
+    10,
+    13,
+    32,
+    39,
+    40,
+    41,
+    43,
+    44,
+    45,
+    46,
+    47,
+    48,
+    49,
+    50,
+    51,
+    52,
+    53,
+    54,
+    55,
+    56,
+    57,
+    58,
+    61,
+    63,
+    65,
+    66,
+    67,
+    68,
+    69,
+    70,
+    71,
+    72,
+    73,
+    74,
+    75,
+    76,
+    77,
+    78,
+    79,
+    80,
+    81,
+    82,
+    83,
+    84,
+    85,
+    86,
+    87,
+    88,
+    89,
+    90,
+];
+
+const TRAFFIC: [u8; 32] = [
+    23,
+    27,
+    29,
+    30,
+    39,
+    43,
+    45,
+    46,
+    53,
+    54,
+    57,
+    58,
+    60,
+    71,
+    75,
+    77,
+    78,
+    83,
+    85,
+    86,
+    89,
+    90,
+    92,
+    99,
+    101,
+    105,
+    106,
+    108,
+    113,
+    114,
+    116,
+    120,
+];
+
+// The pseudo-random numbers: the next of them, and what it draws below a limit.
+fn next(g: u64) -> u64 {
+    ((g % 4294967296) * 1664525 + 1013904223) % 4294967296
+}
+
+fn drawn(g: u64, limit: u64) -> usize {
+    if limit == 0 {
+        return 0;
+    }
+    ((g / 65536) % limit) as usize
+}
+
+// The check-sum with one value more.
+fn mix(sum: u64, value: u64) -> u64 {
+    ((sum % 4294967296) * 31 + value % 4294967296) % 4294967296
+}
+
+fn mix_byte(sum: u64, byte: u8) -> u64 {
+    mix(sum, byte as u64)
+}
+
+// The numbers of the input.
+pub struct Asked {
+    pub call: u64,
+    pub times: u64,
+    pub length: usize,
+}
+
+fn is_digit(byte: u8) -> bool {
+    if byte < 48 {
+        return false;
+    }
+    byte < 58
+}
+
+// The number that starts at or behind `from`; 0 where none does.
+fn number_from(bytes: &[u8], from: usize) -> u64 {
+    let mut value: u64 = 0;
+    let mut i = from;
+    while i < bytes.len() {
+        if !is_digit(bytes[i]) {
+            return value;
+        }
+        value = (value % 1000000000000000) * 10 + ((bytes[i] % 16) as u64);
+        i += 1;
+    }
+    value
+}
+
+// The place behind the number that starts at `from`, and behind one byte more.
+fn behind(bytes: &[u8], from: usize) -> usize {
+    let mut i = from;
+    while i < bytes.len() {
+        if !is_digit(bytes[i]) {
+            return i + 1;
+        }
+        i += 1;
+    }
+    i
+}
+
+fn wanted_in(bytes: &[u8]) -> Asked {
+    let second = behind(bytes, 0);
+    let third = behind(bytes, second);
+    let length = number_from(bytes, third);
+    Asked {
+        call: number_from(bytes, 0),
+        times: number_from(bytes, second),
+        length: if length < 8192 { length as usize } else { 8192 },
+    }
+}
+
+// Stores a byte, where there is room for it.
+fn put(room: &mut [u8], at: usize, byte: u8) {
+    if at < room.len() {
+        room[at] = byte;
+    }
+}
+
+// --- meaning ---
+
+fn fill(input: &mut [u8]) {
+    let mut g: u64 = 625;
+    let mut j = 0;
+    while j < input.len() {
+        g = next(g);
+        put(input, j, (drawn(g, 256) % 256) as u8);
+        j += 1;
+    }
+}
+
+fn meaning_often(times: u64, input: &[u8; 4096]) -> u64 {
+    let mut sum: u64 = 0;
+    let mut i: u64 = 0;
+    while i < times {
+        sum = mix_byte(sum, signals::meaning(input[(i % 4096) as usize]));
+        i += 1;
+    }
+    sum
+}
+
+fn run_meaning(times: u64) -> u64 {
+    let mut input = [0u8; 4096];
+    fill(&mut input);
+    meaning_often(times, &input)
+}
+
+// --- encode and print ---
+
+fn case_no(case: Case) -> u64 {
+    match case {
+        Case::Letters => 0,
+        Case::Figures => 1,
+    }
+}
+
+fn case_of(i: u64) -> Case {
+    if i % 2 == 0 {
+        return Case::Letters;
+    }
+    Case::Figures
+}
+
+// What was written: how much, the case at the end, the last byte of it.
+fn mix_written(sum: u64, count: usize, ends: Case, room: &[u8]) -> u64 {
+    let told = mix(mix(sum, count as u64), case_no(ends));
+    if count == 0 {
+        return told;
+    }
+    if room.len() < count {
+        return told;
+    }
+    mix_byte(told, room[count - 1])
+}
+
+fn mix_refusal(sum: u64, number: u64, value: u64) -> u64 {
+    mix(mix(sum, number), value)
+}
+
+fn mix_encoded(sum: u64, answer: Encoded, room: &[u8]) -> u64 {
+    match answer {
+        Encoded::Written { count, ends } => mix_written(sum, count, ends, room),
+        Encoded::TooLong => mix_refusal(sum, 5, 4096),
+        Encoded::NoSignal(index) => mix_refusal(sum, 1, index as u64),
+        Encoded::NoRoom(needed) => mix_refusal(sum, 2, needed as u64),
+    }
+}
+
+fn mix_printed(sum: u64, answer: Printed, room: &[u8]) -> u64 {
+    match answer {
+        Printed::Written { count, ends } => mix_written(sum, count, ends, room),
+        Printed::TooLong => mix_refusal(sum, 7, 8192),
+        Printed::BadWord(index) => mix_refusal(sum, 3, index as u64),
+        Printed::NoRoom(needed) => mix_refusal(sum, 2, needed as u64),
+    }
+}
+
+fn fill_text(text: &mut [u8]) {
+    let mut g: u64 = 625;
+    let mut j = 0;
+    while j < text.len() {
+        g = next(g);
+        put(text, j, ALPHABET[drawn(g, 52) % 52]);
+        j += 1;
+    }
+}
+
+fn encode_often(times: u64, text: &[u8], room: &mut [u8], from: u64) -> u64 {
+    let mut sum = from;
+    let mut i: u64 = 0;
+    while i < times {
+        let answer = encoding::encode(text, case_of(i), room);
+        sum = mix_encoded(sum, answer, room);
+        i += 1;
+    }
+    sum
+}
+
+fn encode_refused() -> u64 {
+    let mut room = [0u8; 2];
+    let too_long = encoding::encode(&[b'A'; 4097], Case::Letters, &mut room);
+    let no_signal = encoding::encode(&[0u8; 1], Case::Letters, &mut room);
+    let no_room = encoding::encode(b"A1A", Case::Letters, &mut room);
+    let one = mix_encoded(0, too_long, &room);
+    let two = mix_encoded(one, no_signal, &room);
+    mix_encoded(two, no_room, &room)
+}
+
+fn run_encode(times: u64, length: usize) -> u64 {
+    let mut text = [0u8; 8192];
+    let mut room = [0u8; 8192];
+    fill_text(&mut text);
+    if 8192 < length {
+        return 0;
+    }
+    encode_often(times, &text[..length], &mut room, encode_refused())
+}
+
+// A traffic signal, or once in a while the error mark.
+fn word_drawn(g: u64) -> u8 {
+    let at = drawn(g, 33);
+    if at < 32 {
+        return TRAFFIC[at];
+    }
+    255
+}
+
+fn fill_words(words: &mut [u8]) {
+    let mut g: u64 = 625;
+    let mut j = 0;
+    while j < words.len() {
+        g = next(g);
+        put(words, j, word_drawn(g));
+        j += 1;
+    }
+}
+
+fn print_often(times: u64, words: &[u8], room: &mut [u8], from: u64) -> u64 {
+    let mut sum = from;
+    let mut i: u64 = 0;
+    while i < times {
+        let answer = printing::print(words, case_of(i), room);
+        sum = mix_printed(sum, answer, room);
+        i += 1;
+    }
+    sum
+}
+
+fn print_refused() -> u64 {
+    let mut room = [0u8; 1];
+    let too_long = printing::print(&[71u8; 8193], Case::Letters, &mut room);
+    let bad_word = printing::print(&[0u8; 1], Case::Letters, &mut room);
+    let no_room = printing::print(&[71u8; 2], Case::Letters, &mut room);
+    let one = mix_printed(0, too_long, &room);
+    let two = mix_printed(one, bad_word, &room);
+    mix_printed(two, no_room, &room)
+}
+
+fn run_print(times: u64, length: usize) -> u64 {
+    let mut words = [0u8; 8192];
+    let mut room = [0u8; 8192];
+    fill_words(&mut words);
+    if 8192 < length {
+        return 0;
+    }
+    print_often(times, &words[..length], &mut room, print_refused())
+}
+
+// --- step ---
+
+// What is offered at each step, by its place in the plan.
+fn offer_of(j: usize, kind: u8, words: Words) -> Offer {
+    if 240 <= j % 256 {
+        return Offer::End;
+    }
+    if kind == 0 {
+        return Offer::Over;
+    }
+    if kind < 6 {
+        return Offer::Text(words);
+    }
+    Offer::Nothing
+}
+
+// The plan of 4,096 steps, five bytes each: which word of the burst on the way is damaged (none where it is 3 or more), a kind of
+// offer, and three words for a text.
+fn planned(g: u64, j: usize) -> u8 {
+    match j % 5 {
+        0 => (drawn(g, 16) % 16) as u8,
+        1 => (drawn(g, 8) % 8) as u8,
+        _ => TRAFFIC[drawn(g, 32) % 32],
+    }
+}
+
+fn plan(steps: &mut [u8]) {
+    let mut g: u64 = 625;
+    let mut j = 0;
+    while j < steps.len() {
+        g = next(g);
+        put(steps, j, planned(g, j));
+        j += 1;
+    }
+}
+
+fn damaged(burst: Words, damage: u8) -> Words {
+    match damage {
+        0 => Words(0, burst.1, burst.2),
+        1 => Words(burst.0, 0, burst.2),
+        2 => Words(burst.0, burst.1, 0),
+        _ => burst,
+    }
+}
+
+fn place_no(place: Place) -> u64
+    ensures { λ r. ⌜ r < 8 ⌝ }
+{
+    match place {
+        Place::Sending(_) => 0,
+        Place::Turning(_) => 1,
+        Place::Opening => 2,
+        Place::Ending(_) => 3,
+        Place::Receiving(_) => 4,
+        Place::Asking => 5,
+        Place::StandBy => 6,
+        Place::Lost => 7,
+    }
+}
+
+fn packed(words: Words) -> u64
+    ensures { λ r. ⌜ r < 16777216 ⌝ }
+{
+    words.0 as u64 + 256 * (words.1 as u64) + 65536 * (words.2 as u64)
+}
+
+fn mix_reply(sum: u64, reply: Reply) -> u64 {
+    let station = reply.station;
+    let place = station.place;
+    let sent = reply.sent;
+    let printed = reply.printed;
+    let no = place_no(place);
+    let told = mix(sum, packed(sent));
+    if reply.taken {
+        return mix(told, packed(printed) + 16777216 * (2 * no + 1));
+    }
+    mix(told, packed(printed) + 16777216 * (2 * no))
+}
+
+// A refusal sends and prints nothing.
+fn reply_of(stepped: Stepped) -> Reply {
+    match stepped {
+        Stepped::Done(reply) => reply,
+        Stepped::BadStation(s) => silent(s),
+        Stepped::BadWord(_, s) => silent(s),
+    }
+}
+
+fn silent(s: Station) -> Reply {
+    Reply {
+        station: s,
+        sent: mode_a::SILENCE,
+        printed: mode_a::SILENCE,
+        taken: false,
+    }
+}
+
+fn mix_refused(sum: u64, stepped: Stepped) -> u64 {
+    match stepped {
+        Stepped::Done(_) => sum,
+        Stepped::BadStation(_) => mix_refusal(sum, 4, 0),
+        Stepped::BadWord(index, _) => mix_refusal(sum, 3, index as u64),
+    }
+}
+
+// Two stations, the burst on the way, and the check-sum.
+pub struct Pair {
+    pub hearer: Station,
+    pub sender: Station,
+    pub burst: Words,
+    pub sum: u64,
+}
+
+fn fresh_pair(sum: u64) -> Pair {
+    Pair {
+        hearer: Station::fresh_master(),
+        sender: Station::fresh_slave(),
+        burst: Words(signals::CS1, 0, 0),
+        sum: sum,
+    }
+}
+
+fn exchanged(pair: Pair, damage: u8, offer: Offer) -> Pair {
+    let hearer = pair.hearer;
+    let sender = pair.sender;
+    let burst = pair.burst;
+    let reply = reply_of(station::step(hearer, damaged(burst, damage), offer));
+    let after = reply.station;
+    let sent = reply.sent;
+    Pair {
+        hearer: sender,
+        sender: after,
+        burst: sent,
+        sum: mix_reply(pair.sum, reply),
+    }
+}
+
+fn step_often(times: u64, steps: &[u8], from: u64) -> u64 {
+    let mut pair = fresh_pair(from);
+    let mut i: u64 = 0;
+    while i < times {
+        let j = (i % 4096) as usize;
+        if j % 256 == 0 {
+            pair = fresh_pair(pair.sum);
+        }
+        let at = 5 * j;
+        if at + 4 < steps.len() {
+            let words = Words(steps[at + 2], steps[at + 3], steps[at + 4]);
+            pair = exchanged(pair, steps[at], offer_of(j, steps[at + 1], words));
+        }
+        i += 1;
+    }
+    pair.sum
+}
+
+fn run_step(times: u64) -> u64 {
+    let mut steps = [0u8; 20480];
+    plan(&mut steps);
+    let unsound = Station {
+        role: Role::Master,
+        place: Place::Opening,
+        count: 32,
+        case: Case::Letters,
+        plus: false,
+    };
+    let bad_station = station::step(unsound, mode_a::SILENCE, Offer::Nothing);
+    let bad_offer = station::step(
+        Station::fresh_master(),
+        mode_a::SILENCE,
+        Offer::Text(Words(0, 71, 71)),
+    );
+    step_often(
+        times,
+        &steps,
+        mix_refused(mix_refused(0, bad_station), bad_offer),
+    )
+}
+
+// --- slot ---
+
+fn fill_traffic(text: &mut [u8], from: u64) -> u64 {
+    let mut g = from;
+    let mut j = 0;
+    while j < text.len() {
+        g = next(g);
+        put(text, j, TRAFFIC[drawn(g, 32) % 32]);
+        j += 1;
+    }
+    g
+}
+
+fn mix_slot(sum: u64, slot: Slot) -> u64 {
+    match slot {
+        Slot::Word(word) => mix(sum, word as u64),
+        Slot::TooLong => mix_refusal(sum, 7, 8192),
+        Slot::BadWord(index) => mix_refusal(sum, 3, index as u64),
+        Slot::PastLast(slots) => mix_refusal(sum, 6, slots as u64),
+    }
+}
+
+// How many slots the text has: beside the refusal of a slot that none has.
+fn slots_of(text: &[u8]) -> usize {
+    match sending::slot(text, 4294967295) {
+        Slot::Word(_) => 0,
+        Slot::TooLong => 0,
+        Slot::BadWord(_) => 0,
+        Slot::PastLast(slots) => slots,
+    }
+}
+
+fn slot_refused(text: &[u8]) -> u64 {
+    let one = mix_slot(0, sending::slot(&[71u8; 8193], 0));
+    let two = mix_slot(one, sending::slot(&[0u8; 1], 0));
+    mix_slot(two, sending::slot(text, 4294967295))
+}
+
+fn slot_often(times: u64, text: &[u8]) -> u64 {
+    let slots = slots_of(text);
+    let mut sum = slot_refused(text);
+    let mut number = 0;
+    let mut i: u64 = 0;
+    while i < times {
+        sum = mix_slot(sum, sending::slot(text, number));
+        if number < slots {
+            number += 1;
+        }
+        if number == slots {
+            number = 0;
+        }
+        i += 1;
+    }
+    sum
+}
+
+fn run_slot(times: u64, length: usize) -> u64 {
+    let mut text = [0u8; 8192];
+    fill_traffic(&mut text, 625);
+    if 8192 < length {
+        return 0;
+    }
+    slot_often(times, &text[..length])
+}
+
+// --- receive ---
+
+fn word_in(slot: Slot) -> u8 {
+    match slot {
+        Slot::Word(word) => word,
+        Slot::TooLong => 0,
+        Slot::BadWord(_) => 0,
+        Slot::PastLast(_) => 0,
+    }
+}
+
+// A slot of the text as it is heard: each sixteenth or so is damaged.
+fn heard(g: u64, text: &[u8], number: usize) -> u8 {
+    if drawn(g, 16) == 0 {
+        return 0;
+    }
+    word_in(sending::slot(text, number))
+}
+
+fn broadcast(stream: &mut [u8], text: &[u8], from: u64) {
+    let mut g = from;
+    let mut k = 0;
+    while k < stream.len() {
+        g = next(g);
+        put(stream, k, heard(g, text, k));
+        k += 1;
+    }
+}
+
+fn receiver_in(received: Received) -> Receiver {
+    match received {
+        Received::Done(heard) => heard.receiver,
+        Received::BadReceiver(receiver) => receiver,
+    }
+}
+
+fn printed_in(received: Received) -> u8 {
+    match received {
+        Received::Done(heard) => heard.printed,
+        Received::BadReceiver(_) => 0,
+    }
+}
+
+fn mix_unsound(sum: u64, received: Received) -> u64 {
+    match received {
+        Received::Done(_) => sum,
+        Received::BadReceiver(_) => mix_refusal(sum, 4, 0),
+    }
+}
+
+fn receive_refused() -> u64 {
+    let unsound = Receiver {
+        hearing: Hearing::Searching(4, Phasing::One),
+    };
+    mix_unsound(0, receiving::receive(unsound, 0))
+}
+
+fn receive_often(times: u64, stream: &[u8]) -> u64 {
+    let mut sum = receive_refused();
+    let mut receiver = Receiver::fresh();
+    let mut at = 0;
+    let mut i: u64 = 0;
+    while i < times {
+        if at < stream.len() {
+            let received = receiving::receive(receiver, stream[at]);
+            sum = mix_byte(sum, printed_in(received));
+            receiver = receiver_in(received);
+            at += 1;
+        }
+        if at == stream.len() {
+            at = 0;
+        }
+        i += 1;
+    }
+    sum
+}
+
+fn run_receive(times: u64) -> u64 {
+    let mut text = [0u8; 40];
+    let g = fill_traffic(&mut text, 625);
+    let slots = slots_of(&text);
+    let mut stream = [0u8; 256];
+    broadcast(&mut stream, &text, g);
+    if 256 < slots {
+        return 0;
+    }
+    receive_often(times, &stream[..slots])
+}
+
+fn answer(name: &[u8], sum: u64) {
+    io::write_all(1, name);
+    io::print_decimal(1, sum);
+    io::write_all(1, b"\n");
+}
+
+fn main() {
+    let mut input = [0u8; 64];
+    let got = io::read_full(0, &mut input);
+    let wanted = wanted_in(&input[..got]);
+    let call = wanted.call;
+    match call {
+        1 => answer(b"meaning ", run_meaning(wanted.times)),
+        2 => answer(b"encode ", run_encode(wanted.times, wanted.length)),
+        3 => answer(b"print ", run_print(wanted.times, wanted.length)),
+        4 => answer(b"step ", run_step(wanted.times)),
+        5 => answer(b"slot ", run_slot(wanted.times, wanted.length)),
+        6 => answer(b"receive ", run_receive(wanted.times)),
+        _ => answer(b"no call ", 0),
+    }
+}
