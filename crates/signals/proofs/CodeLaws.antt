@@ -1,13 +1,14 @@
 -- What holds of every byte, and of every signal: each by one test that antt computes over all of them. Assumes nothing.
 use mathlib.Core.Path.{_≡_, refl}
-use mathlib.Core.Bool.{Bool, true, false, _&&_, Bool·beq}
+use mathlib.Core.Bool.{Bool, true, false, not, _&&_, Bool·beq}
 use Prim.Native.Nat.{ℕ, zero, suc, _+_, _≤_, _<_}
 use lib.Dec.{T, eqb, leb, leb→le}
 use lib.Count.{ones}
 use Rattle.laws.specs.Choice.{if_then_else_}
 use Rattle.laws.proofs.Below.{at-below, agree-below, both-left, both-right}
+use Rattle.laws.proofs.Table.{same-table}
 use Rattle.signals.specs.Units.{onesOf, intactOf}
-use Rattle.signals.specs.Meaning.{meaningOf, wordNo}
+use Rattle.signals.specs.Meaning.{meaningOf, trafficOf, wordNo}
 
 beq→eq : (a b : Bool) → T (Bool·beq a b) → a ≡ b
 beq→eq true true t = refl
@@ -35,6 +36,12 @@ module _ (w : ℕ) (byte : w < 256) where
   pub meaning-le : meaningOf w ≤ 35
   unfolding right
   meaning-le = leb→le _ _ (both-left (leb (meaningOf w) 35) _ (both-right (Bool·beq (intactOf w) (leb 1 (meaningOf w))) _ passes))
+
+  -- a traffic signal is an intact word that is no service signal
+  pub traffic-is : trafficOf w ≡ (intactOf w && (not (eqb w 15) && (not (eqb w 51) && not (eqb w 102))))
+  unfolding trafficOf intactOf onesOf meaningOf
+  traffic-is =
+      same-table trafficOf (λ w. intactOf w && (not (eqb w 15) && (not (eqb w 51) && not (eqb w 102)))) 256 true refl w byte
 
 -- how many numbers below n pass the test
 abbrev countBelow : (ℕ → Bool) → ℕ → ℕ

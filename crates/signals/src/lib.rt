@@ -3,7 +3,7 @@
 ghost use mathlib.Core.Path.{_≡_};
 ghost use Prim.Native.Nat.{_<_};
 ghost use Rattle.signals.specs.Units.{intactOf};
-ghost use Rattle.signals.specs.Meaning.{meaningOf};
+ghost use Rattle.signals.specs.Meaning.{meaningOf, trafficOf};
 ghost use Rattle.signals.specs.Rows.{rowOf};
 
 // The case of a direction, or of a text (01, Text).
@@ -33,8 +33,9 @@ pub const CS3: u8 = 89;
 // A signal's word, and the byte that it prints in letters case and in figures case; 0 where it prints none.
 pub struct Row(pub u8, pub u8, pub u8);
 
-// ORDER: a signal's number less one is its place.
-const ROWS: [Row; 35] = [
+// ORDER: a signal's number less one is its place. The tables are public for the crates that read them in a loop: a constant is
+// built anew wherever it is used, and a loop builds it once.
+pub const ROWS: [Row; 35] = [
     // word letter figure
     Row(071, 65, 45), //  1  A  -
     Row(114, 66, 63), //  2  B  ?
@@ -74,7 +75,7 @@ const ROWS: [Row; 35] = [
 ];
 
 // Every byte, from 0, and the number of the signal that it is; 0 where it is mutilated.
-const MEANING: [u8; 256] = [
+pub const MEANING: [u8; 256] = [
     0,
     0,
     0,
@@ -348,6 +349,22 @@ pub fn intact(word: u8) -> bool
         return false;
     }
     u8::count_ones(word) == 4
+}
+
+// Whether a word is traffic: an intact word that is none of the three service signals.
+pub fn is_traffic(word: u8) -> bool
+    ensures { λ r. ⌜ r ≡ trafficOf word ⌝ }
+{
+    if !intact(word) {
+        return false;
+    }
+    if word == ALPHA {
+        return false;
+    }
+    if word == BETA {
+        return false;
+    }
+    word != RQ
 }
 
 // The row of the signal with the number `at` + 1.
