@@ -1,22 +1,21 @@
--- The byte of a word, read off the tables, is what the word prints: one test that antt computes over all 256 bytes, in
--- each case. Assumes nothing.
-use mathlib.Core.Path.{_≡_, refl, ap, _∙_}
-use mathlib.Core.Bool.{Bool, true, false, _||_}
+-- The byte of a word, read off the tables, is what the word prints; the table of glyphs that the rows fill, and the test
+-- of a word: each by one test that antt computes over all 256 bytes. Assumes nothing.
+use mathlib.Core.Path.{_≡_, refl, ap, sym, _∙_}
+use mathlib.Core.Bool.{Bool, true, false, not, _||_, _&&_}
 use mathlib.Core.List.{List, [], _∷_}
-use Prim.Native.Nat.{ℕ, zero, suc, _-_, _<_, _≤_}
-use native.Mathlib.Numerals.{sub-one}
+use Prim.Native.Nat.{ℕ, zero, suc, _+_, _<_}
+use native.Mathlib.Numerals.{add-one}
 use native.Mathlib.Omega.{arith}
-use lib.Dec.{leb}
-use lib.ListN.{length}
-use borrow.Author.Tests.{eq-eqb, ne-eqb, le-leb}
-use Rattle.laws.proofs.Table.{tabFrom, same-table}
+use lib.Count.{ones}
+use lib.Dec.{eqb, ltb}
+use lib.ListN.{length, getD, set, replicate}
+use Rattle.laws.proofs.Table.{tabFrom, tab-at, same-table}
 use Rattle.signals.specs.declared.Case.{Case}
 use Rattle.signals.specs.declared.Case.the-variants.{Letters, Figures}
-use Rattle.signals.specs.declared.Row.{Row}
 use Rattle.signals.specs.Rows.{rowOf}
 use Rattle.signals.specs.Meaning.{meaningOf, trafficOf}
 use Rattle.text.specs.Printing.{bytesOf, mayPrint}
-use Rattle.printing.specs.Glyph.{column, glyphNo, glyphOf, putOf}
+use Rattle.printing.specs.Glyph.{column, glyphOf, GlyphsOf, putOf}
 
 same : (c : Case) → tabFrom (λ w. putOf (glyphOf c w)) 256 0 ≡ tabFrom (bytesOf c) 256 0
 unfolding glyphOf rowOf meaningOf bytesOf
@@ -34,52 +33,35 @@ pub put-one : (g : ℕ) → (g ≡ 0 → ⊥) → putOf g ≡ g ∷ []
 put-one zero f = absurd (f refl)
 put-one (suc g) f = refl
 
-pub put-le : (g : ℕ) → length (putOf g) ≤ 1
-put-le zero = omega arith
-put-le (suc g) = omega arith
+-- the table after the first n rows
+unfoldable pub filled : Case → ℕ → List ℕ
+filled c zero = set (replicate 256 0) 255 42
+filled c (suc n) = set (filled c n) (rowOf n .0) (column c (rowOf n))
 
--- the glyph, by the tests that find it: n is the number read, and r the row read there
-module _ (c : Case) (w : ℕ) where
-  pub glyph-star : w ≡ 255 → 42 ≡ glyphOf c w
-  unfolding glyphOf
-  glyph-star e = rw (eq-eqb w 255 e)
+pub fill-starts : (c : Case) → set (replicate 256 0) 255 42 ≡ filled c 0
+unfolding filled
+fill-starts c = refl
 
-  module _ (f : w ≡ 255 → ⊥) (n : ℕ) (e : n ≡ meaningOf w) where
-    pub glyph-none : n ≡ 0 → 0 ≡ glyphOf c w
-    unfolding glyphOf
-    glyph-none z = rw (ne-eqb w 255 f, ← e, z)
+pub fill-next : (c : Case) (i : ℕ) (table : List ℕ) → table ≡ filled c i → (g : ℕ) → g ≡ column c (rowOf i) → set table (rowOf i .0) g ≡ filled c (i + 1)
+unfolding filled
+fill-next c i table e g eg = rw (add-one, e, eg)
 
-    numbered : (m : ℕ) → (m ≡ 0 → ⊥) → column c (rowOf (m - 1)) ≡ glyphNo c m
-    numbered zero g = absurd (g refl)
-    numbered (suc m) g = ap (λ (k : ℕ). column c (rowOf k)) (sub-one (suc m))
+full : (c : Case) → filled c 35 ≡ tabFrom (glyphOf c) 256 0
+unfolding filled glyphOf rowOf meaningOf
+full Letters = refl
+full Figures = refl
 
-    pub glyph-row : (n ≡ 0 → ⊥) → (r : Row) → r ≡ rowOf (n - 1) → column c r ≡ glyphOf c w
-    unfolding glyphOf
-    glyph-row g r er = rw (er, ne-eqb w 255 f, ← e) (numbered n g)
+pub all-filled : (c : Case) → GlyphsOf c (filled c 35)
+all-filled c = record { at = λ w h. ap (λ (l : List ℕ). getD l w 0) (full c) ∙ tab-at (glyphOf c) 256 0 w h }
 
--- whether a word may stand, by the tests that find it
-module _ (w : ℕ) where
-  pub mark-may : w ≡ 255 → true ≡ mayPrint w
-  unfolding mayPrint trafficOf meaningOf
-  mark-may e = rw e
+-- a word may stand: the error mark, or an intact word that is no service signal
+pub may-is : (w : ℕ) → w < 256 → mayPrint w ≡ (eqb w 255 || (((((ltb w 128 && eqb (ones w) 4) && not (eqb w 15)) && not (eqb w 51)) && not (eqb w 102))))
+unfolding mayPrint trafficOf meaningOf ones
+may-is w h = same-table mayPrint (λ w. eqb w 255 || (((((ltb w 128 && eqb (ones w) 4) && not (eqb w 15)) && not (eqb w 51)) && not (eqb w 102)))) 256 true refl w h
 
-  module _ (f : w ≡ 255 → ⊥) (n : ℕ) (e : n ≡ meaningOf w) where
-    pub none-may-not : n ≡ 0 → false ≡ mayPrint w
-    unfolding mayPrint trafficOf
-    none-may-not z = rw (ne-eqb w 255 f, ← e, z)
-
-    pub traffic-may : (n ≡ 0 → ⊥) → leb n 32 ≡ mayPrint w
-    unfolding mayPrint trafficOf
-    traffic-may g = rw (ne-eqb w 255 f, ← e, le-leb 1 n (omega arith)) (or-false (leb n 32))
-      where
-        or-false : (b : Bool) → b ≡ b || false
-        or-false true = refl
-        or-false false = refl
-
--- the size of the glyph is the length of what the word prints, which is at most two bytes, as the laws of a walk ask (encoding has two)
-module _ (c : Case) (w : ℕ) (byte : w < 256) where
-  pub sized : (g : ℕ) → g ≡ glyphOf c w → (n : ℕ) → n ≡ length (putOf g) → n ≡ length (bytesOf c w)
-  sized g e n en = en ∙ ap (λ (g : ℕ). length (putOf g)) e ∙ ap (λ (l : List ℕ). length l) (glyph-prints c w byte)
-
-  pub bytes-le : length (bytesOf c w) ≤ 2
-  bytes-le = rw (← glyph-prints c w byte) (omega (arith, put-le (glyphOf c w)))
+pub both-true : (a b : Bool) → (a && b) ≡ true → (a ≡ true) × (b ≡ true)
+both-true true b e = (refl, e)
+both-true false b e = absurd (not-both e)
+  where
+    not-both : false ≡ true → ⊥
+    not-both e = let z : _≡_ {A = ℕ} 0 1 = cc in omega arith

@@ -1,3 +1,5 @@
 -- What the printer's own functions answer, beside the rules of `text`.
 --     Glyph   the byte of a word, read off the code's tables
+--     Run     words printed in one case, up to a shift to the other
 pub mod Glyph
+pub mod Run

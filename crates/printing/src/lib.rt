@@ -1,148 +1,236 @@
-// Printing: signals to operator's characters (01, Text).
+// Printing: signals to operator's characters (01, Text). A list is judged whole before a byte is written, in a loop without
+// branches, and then printed run by run: a run is the words up to the next shift to the other case.
+ghost use mathlib.Core.Bool.{true};
 ghost use mathlib.Core.Path.{_≡_};
 ghost use Prim.Native.Nat.{_+_, _≤_};
 ghost use lib.ListN.{length, drop};
-ghost use Rattle.laws.specs.Room.{Wrote};
+ghost use Rattle.signals.specs.declared.Case.{Case};
 ghost use Rattle.signals.specs.declared.Case.the-variants.{Letters, Figures};
-ghost use Rattle.text.specs.Printing.{mayPrint, caseAt, printed, endsPrinted, Prints};
-ghost use Rattle.text.specs.Survey.{surveyOf};
-ghost use Rattle.printing.specs.Glyph.{glyphOf, putOf};
+ghost use Rattle.signals.specs.Numbers.{firstNot};
+ghost use Rattle.text.specs.Printing.{mayPrint, printed, Prints};
+ghost use Rattle.text.specs.Shifts.{shiftTo, other};
+ghost use Rattle.printing.specs.Glyph.{column, GlyphsOf};
+ghost use Rattle.printing.specs.Run.{sizeOf, Ran, Typed};
 use signals::Case;
+use signals::Row;
 use text::Printed;
-use text::Surveyed;
 
 // The error mark in a list of signals, and the byte that it prints (01, Text).
 const ERROR_MARK: u8 = 255;
 
 const STAR: u8 = 42;
 
-// Whether a word may stand in a list that is printed: traffic, or the error mark.
+// The signal blank (01, The code, No 32).
+const BLANK: u8 = 106;
+
+// Where a run stopped: at the shift that ends it or past the last word, and the place past its last byte.
+pub struct Stop {
+    pub at: usize,
+    pub to: usize,
+}
+
+// The place past the last byte, and the case after the last signal.
+pub struct End {
+    pub to: usize,
+    pub ends: Case,
+}
+
+// Whether a word may stand in a list that is printed: traffic, or the error mark. No table and no branch: so the loop over
+// it takes many words at a time.
 fn may_print(word: u8) -> bool
     ensures { λ r. ⌜ r ≡ mayPrint word ⌝ }
 {
-    if word == ERROR_MARK {
-        return true;
-    }
-    let number = signals::meaning(word);
-    if number == 0 {
-        return false;
-    }
-    number <= 32
+    (word == ERROR_MARK)
+        | ((word < 128)
+            & (u8::count_ones(word) == 4)
+            & (word != signals::ALPHA)
+            & (word != signals::BETA)
+            & (word != signals::RQ))
 }
 
-// The byte that a word prints in a case; 0 where it prints none.
-fn glyph(case: Case, word: u8) -> u8
-    ensures { λ r. ⌜ r ≡ glyphOf case word ⌝ }
+// Whether all the words may stand. It reads on past a word that may not: a loop that stops early takes one word at a time.
+fn all_may(words: &[u8]) -> bool
+    ensures { λ r. ⌜ (r ≡ true → length (now (words .entry)) ≤ firstNot mayPrint (now (words .entry))) ⌝ }
 {
-    if word == ERROR_MARK {
-        return STAR;
+    let mut all = true;
+    let mut i = 0;
+    while i < words.len() {
+        all = all & may_print(words[i]);
+        i += 1;
     }
-    let number = signals::meaning(word);
-    if number == 0 {
+    all
+}
+
+// The index of the first word that may not stand; the length where all may.
+fn first_bad(words: &[u8]) -> usize
+    ensures { λ r. ⌜ r ≡ firstNot mayPrint (now (words .entry)) ⌝ }
+{
+    if all_may(words) {
+        return words.len();
+    }
+    let mut i = 0;
+    while i < words.len() {
+        if !may_print(words[i]) {
+            return i;
+        }
+        i += 1;
+    }
+    i
+}
+
+// How many bytes a word that may stand prints, in either case.
+fn size(word: u8) -> usize
+    ensures { λ r. ⌜ r ≡ sizeOf word ⌝ }
+{
+    if word == signals::LETTERS {
         return 0;
     }
-    let row = signals::row_at((number - 1) as usize);
+    if word == signals::FIGURES {
+        return 0;
+    }
+    if word == BLANK {
+        return 0;
+    }
+    1
+}
+
+// The room that the words need, whatever case they start in.
+fn needed(words: &[u8]) -> usize
+    requires { ⌜ (length (now words) ≤ 8192) × (length (now words) ≤ firstNot mayPrint (now words)) ⌝ }
+    ensures { λ r. ⌜ ((c : Case) → r ≡ length (printed c (now (words .entry)))) ⌝ }
+{
+    let mut room = 0;
+    let mut i = 0;
+    while i < words.len() {
+        room += size(words[i]);
+        i += 1;
+    }
+    room
+}
+
+// The byte of a row in a case.
+fn column_of(case: Case, row: Row) -> u8
+    ensures { λ r. ⌜ r ≡ column case row ⌝ }
+{
     match case {
         Case::Letters => row.1,
         Case::Figures => row.2,
     }
 }
 
-fn case_at(case: Case, word: u8) -> Case
-    ensures { λ r. ⌜ r ≡ caseAt case word ⌝ }
+// What each byte prints in a case, from the code's rows; 0 where it prints none.
+fn glyphs(case: Case) -> [u8; 256]
+    ensures { λ r. ⌜ GlyphsOf case r ⌝ }
 {
-    if word == signals::LETTERS {
-        return Case::Letters;
-    }
-    if word == signals::FIGURES {
-        return Case::Figures;
-    }
-    case
-}
-
-// How many bytes a glyph is.
-fn size(glyph: u8) -> usize
-    ensures { λ r. ⌜ r ≡ length (putOf glyph) ⌝ }
-{
-    if glyph == 0 {
-        return 0;
-    }
-    1
-}
-
-// The first word that may not stand, or the room that the signals need and the case that they end in.
-fn survey(words: &[u8], case: Case) -> Surveyed
-    requires { ⌜ length (now words) ≤ 8192 ⌝ }
-    ensures { λ r. ⌜ r ≡ surveyOf mayPrint printed endsPrinted (now (words .entry)) case ⌝ }
-{
-    let mut room = 0;
-    let mut ends = case;
+    let rows = signals::ROWS;
+    let mut table = [0u8; 256];
+    table[ERROR_MARK as usize] = STAR;
     let mut i = 0;
-    while i < words.len() {
-        let word = words[i];
-        if !may_print(word) {
-            return Surveyed::Bad(i);
-        }
-        room += size(glyph(ends, word));
-        ends = case_at(ends, word);
+    while i < 35 {
+        let row = rows[i];
+        let word = row.0 as usize;
+        table[word] = column_of(case, row);
         i += 1;
     }
-    Surveyed::Needs { room, ends }
+    table
 }
 
-// Stores a glyph at `to`, unless it is 0; answers the place past it.
-fn put(room: &mut [u8], to: usize, glyph: u8) -> usize
-    requires { ⌜ to + length (putOf glyph) ≤ length (now room) ⌝ }
-    ensures { λ r. ⌜ Wrote (now (room .entry)) to (putOf glyph) r (now (room .exit)) ⌝ }
+// The shift that leaves a case.
+fn leaving(case: Case) -> u8
+    ensures { λ r. ⌜ r ≡ shiftTo (other case) ⌝ }
 {
-    if glyph == 0 {
-        return to;
+    match case {
+        Case::Letters => signals::FIGURES,
+        Case::Figures => signals::LETTERS,
     }
-    room[to] = glyph;
-    to + 1
 }
 
-// Prints the words from `at` on in letters case, into the room from `to` on, until figures hands on to `print_figures`;
-// answers the place past the last byte.
-fn print_letters(words: &[u8], at: usize, room: &mut [u8], to: usize) -> usize
-    requires { ⌜ (at ≤ length (now words)) × (to + length (printed Letters (drop at (now words))) ≤ length (now room)) ⌝ }
-    ensures { λ r. ⌜ Wrote (now (room .entry)) to (printed Letters (drop at (now (words .entry)))) r (now (room .exit)) ⌝ }
+// Prints the words from `at` on, into the room from `to` on, up to the shift that leaves the case, if one comes.
+fn print_run(
+    case: Case,
+    table: &[u8; 256],
+    words: &[u8],
+    at: usize,
+    room: &mut [u8],
+    to: usize,
+) -> Stop
+    requires { ⌜ (GlyphsOf case (now table)) × (at ≤ length (now words)) × (to + length (printed case (drop at (now words))) ≤ length (now room)) ⌝ }
+    ensures { λ r. ⌜ Ran case (now (words .entry)) at (now (room .entry)) to r (now (room .exit)) ⌝ }
 {
-    if at == words.len() {
-        return to;
+    let mut i = at;
+    let mut next = to;
+    while i < words.len() {
+        let word = words[i];
+        let glyph = table[word as usize];
+        if glyph == 0 {
+            if word == leaving(case) {
+                return Stop { at: i, to: next };
+            }
+        } else {
+            room[next] = glyph;
+            next += 1;
+        }
+        i += 1;
     }
-    let word = words[at];
-    if word == signals::FIGURES {
-        return print_figures(words, at + 1, room, to);
+    Stop { at: i, to: next }
+}
+
+// Prints the words from `at` on in letters case, into the room from `to` on, until figures hands on to `print_figures`.
+fn print_letters(
+    letters: &[u8; 256],
+    figures: &[u8; 256],
+    words: &[u8],
+    at: usize,
+    room: &mut [u8],
+    to: usize,
+) -> End
+    requires { ⌜ (GlyphsOf Letters (now letters)) × (GlyphsOf Figures (now figures)) × (at ≤ length (now words)) × (to + length (printed Letters (drop at (now words))) ≤ length (now room)) ⌝ }
+    ensures { λ r. ⌜ Typed Letters (drop at (now (words .entry))) (now (room .entry)) to r (now (room .exit)) ⌝ }
+{
+    let stop = print_run(Case::Letters, letters, words, at, room, to);
+    let i = stop.at;
+    if i == words.len() {
+        return End {
+            to: stop.to,
+            ends: Case::Letters,
+        };
     }
-    let next = put(room, to, glyph(Case::Letters, word));
-    print_letters(words, at + 1, room, next)
+    print_figures(letters, figures, words, i + 1, room, stop.to)
 }
 
 // The same in figures case, until letters hands on to `print_letters`.
-fn print_figures(words: &[u8], at: usize, room: &mut [u8], to: usize) -> usize
-    requires { ⌜ (at ≤ length (now words)) × (to + length (printed Figures (drop at (now words))) ≤ length (now room)) ⌝ }
-    ensures { λ r. ⌜ Wrote (now (room .entry)) to (printed Figures (drop at (now (words .entry)))) r (now (room .exit)) ⌝ }
+fn print_figures(
+    letters: &[u8; 256],
+    figures: &[u8; 256],
+    words: &[u8],
+    at: usize,
+    room: &mut [u8],
+    to: usize,
+) -> End
+    requires { ⌜ (GlyphsOf Letters (now letters)) × (GlyphsOf Figures (now figures)) × (at ≤ length (now words)) × (to + length (printed Figures (drop at (now words))) ≤ length (now room)) ⌝ }
+    ensures { λ r. ⌜ Typed Figures (drop at (now (words .entry))) (now (room .entry)) to r (now (room .exit)) ⌝ }
 {
-    if at == words.len() {
-        return to;
+    let stop = print_run(Case::Figures, figures, words, at, room, to);
+    let i = stop.at;
+    if i == words.len() {
+        return End {
+            to: stop.to,
+            ends: Case::Figures,
+        };
     }
-    let word = words[at];
-    if word == signals::LETTERS {
-        return print_letters(words, at + 1, room, to);
-    }
-    let next = put(room, to, glyph(Case::Figures, word));
-    print_figures(words, at + 1, room, next)
+    print_letters(letters, figures, words, i + 1, room, stop.to)
 }
 
-// Prints all the words from the start of the room; answers how many bytes.
-fn write(words: &[u8], case: Case, room: &mut [u8]) -> usize
+// Prints all the words from the start of the room.
+fn write(words: &[u8], case: Case, room: &mut [u8]) -> End
     requires { ⌜ length (printed case (now words)) ≤ length (now room) ⌝ }
-    ensures { λ r. ⌜ Wrote (now (room .entry)) 0 (printed case (now (words .entry))) r (now (room .exit)) ⌝ }
+    ensures { λ r. ⌜ Typed case (now (words .entry)) (now (room .entry)) 0 r (now (room .exit)) ⌝ }
 {
+    let letters = glyphs(Case::Letters);
+    let figures = glyphs(Case::Figures);
     match case {
-        Case::Letters => print_letters(words, 0, room, 0),
-        Case::Figures => print_figures(words, 0, room, 0),
+        Case::Letters => print_letters(&letters, &figures, words, 0, room, 0),
+        Case::Figures => print_figures(&letters, &figures, words, 0, room, 0),
     }
 }
 
@@ -154,15 +242,21 @@ pub fn print(words: &[u8], case: Case, room: &mut [u8]) -> Printed
     if 8192 < words.len() {
         return Printed::TooLong;
     }
-    let found = survey(words, case);
-    match found {
-        Surveyed::Bad(i) => Printed::BadWord(i),
-        Surveyed::Needs { room: needed, ends } => {
-            if room.len() < needed {
-                return Printed::NoRoom(needed);
-            }
-            let count = write(words, case, room);
-            Printed::Written { count, ends }
+    let bad = first_bad(words);
+    if bad < words.len() {
+        return Printed::BadWord(bad);
+    }
+    // A word prints one byte at most, so a room as long as the list is never too short.
+    if room.len() < words.len() {
+        let need = needed(words);
+        if room.len() < need {
+            return Printed::NoRoom(need);
         }
+    }
+    let end = write(words, case, room);
+    let ends = end.ends;
+    Printed::Written {
+        count: end.to,
+        ends,
     }
 }

@@ -1,16 +1,21 @@
--- `printing::size` meets its contract. Assumes nothing.
-use Rattle.printing.proofs.GlyphLaws.{put-one}
-use borrow.Author.Needs.{needs}
+-- `printing::size` meets its contract, test by test. Assumes nothing.
+use borrow.Author.Tests.{eq-eqb, ne-eqb}
 use Rattle.printing.proofs.size.Statement.{statement}
 use Rattle.printing.proofs.size.Tie as tie
 use Rattle.printing.proofs.size.Reads as reads
 use Rattle.printing.proofs.size.Lts as lts
 
 returns : tie.Need-returns
-returns c = search needs
+returns c = rw (eq-eqb _ _ (c .if1 .taken))
 
 returns-2 : tie.Need-returns-2
-returns-2 c = rw (put-one (c .before .args .glyph) (c .if1 .left))
+returns-2 c = rw (ne-eqb _ _ (c .before .if1 .left), eq-eqb _ _ (c .if2 .taken))
+
+returns-3 : tie.Need-returns-3
+returns-3 c = rw (ne-eqb _ _ (c .before .before .if1 .left), ne-eqb _ _ (c .before .if2 .left), eq-eqb _ _ (c .if3 .taken))
+
+returns-4 : tie.Need-returns-4
+returns-4 c = rw (ne-eqb _ _ (c .before .before .if1 .left), ne-eqb _ _ (c .before .if2 .left), ne-eqb _ _ (c .if3 .left))
 
 pub size-spec : {M : Type 1} → statement M
-size-spec = tie.close (tie.spec returns returns-2)
+size-spec = tie.close (tie.spec returns returns-2 returns-3 returns-4)
