@@ -11,7 +11,6 @@ use lib.ListN.{length, getD, set, drop, length-append}
 use lib.Seq.{length-sets}
 use borrow.Author.Tests.{ne-eqb}
 use Rattle.laws.specs.Choice.{if_then_else_}
-use Rattle.laws.specs.Room.{Wrote}
 use Rattle.laws.proofs.Writes.{wrote-then}
 use Rattle.signals.specs.declared.Case.{Case}
 use Rattle.signals.specs.declared.Case.the-variants.{Letters, Figures}

@@ -254,9 +254,7 @@ pub fn print(words: &[u8], case: Case, room: &mut [u8]) -> Printed
         }
     }
     let end = write(words, case, room);
+    let count = end.to;
     let ends = end.ends;
-    Printed::Written {
-        count: end.to,
-        ends,
-    }
+    Printed::Written { count, ends }
 }

@@ -4,9 +4,8 @@ use mathlib.Core.Path.{_∙_}
 use Prim.Native.Nat.{ℕ, _<_, _-_}
 use native.Mathlib.Omega.{arith}
 use lib.ListN.{length}
-use borrow.Author.Needs.{needs}
 use Rattle.signals.specs.declared.Case.the-variants.{Letters, Figures}
-use Rattle.printing.proofs.RunLaws.{ran-length, typed-end, ran-before, rest-room, typed-on}
+use Rattle.printing.proofs.RunLaws.{typed-end, ran-before, rest-room, typed-on}
 use borrow.Fn.Kinds.{In}
 use borrow.Fn.PlainCycle.{Measures, is, falls, and}
 use Rattle.printing.proofs.print_figures.Reads as print-figures

@@ -1,5 +1,5 @@
 -- `printing::glyphs` meets its contract: row by row the table is filled, and full it has each glyph. Assumes nothing.
-use mathlib.Core.Path.{_≡_, sym, _∙_}
+use mathlib.Core.Path.{_≡_}
 use Prim.Native.Nat.{_-_, _≤_}
 use native.Mathlib.Omega.{arith}
 use borrow.Author.Needs.{needs}

@@ -1,10 +1,10 @@
 -- `printing::print_run` meets its contract: the words passed are printed, all in the case of the run. Assumes nothing.
-use mathlib.Core.Path.{_≡_, sym, _∙_}
+use mathlib.Core.Logic.{⊎-elim}
+use mathlib.Core.Path.{sym, _∙_}
 use Prim.Native.Nat.{_-_}
 use native.Mathlib.Omega.{arith}
-use lib.ListN.{length, getD}
+use lib.ListN.{length}
 use borrow.Author.Needs.{needs}
-use mathlib.Core.Logic.{⊎-elim}
 use Rattle.printing.specs.Run.{Going}
 use Rattle.printing.proofs.RunLaws.{run-starts, run-length, run-ends, run-stops, run-silent, run-room, run-prints}
 use Rattle.printing.proofs.print_run.Statement.{statement}
