@@ -1,4 +1,4 @@
--- What may stand in a block, by the signal's number: one test that antt computes over all 256 bytes. And what a first word
+-- What may stand in a block: every intact word but α and RQ, by one test that antt computes over all 256 bytes. And what a first word
 -- says. Assumes nothing.
 use mathlib.Core.Path.{_≡_, refl}
 use mathlib.Core.Bool.{Bool, true, false, not, _&&_}
@@ -7,19 +7,20 @@ use lib.Dec.{eqb}
 use borrow.Author.Tests.{ne-eqb, eqb-true, eqb-false}
 use Rattle.laws.specs.Choice.{if_then_else_}
 use Rattle.laws.proofs.Table.{tabFrom, same-table}
+use Rattle.signals.specs.Units.{onesOf, intactOf}
 use Rattle.signals.specs.Meaning.{meaningOf, trafficOf, cs1, cs2, cs3, rq}
 use Rattle.mode_a.specs.declared.Number.the-variants.{One, Two}
 use Rattle.mode_a.specs.Heard.{First, Cs, Cs3, Rq, Else, firstOf, mayHold}
 
-abbrev byNumber : ℕ → Bool
-byNumber n = not (eqb n 0) && (not (eqb n 33) && not (eqb n 35))
+abbrev byOnes : ℕ → Bool
+byOnes w = (intactOf w && not (eqb w 15)) && not (eqb w 102)
 
-same : tabFrom mayHold 256 0 ≡ tabFrom (λ w. byNumber (meaningOf w)) 256 0
-unfolding mayHold trafficOf meaningOf
+same : tabFrom mayHold 256 0 ≡ tabFrom byOnes 256 0
+unfolding mayHold trafficOf meaningOf intactOf onesOf
 same = refl
 
-pub may-hold-number : (w : ℕ) → w < 256 → mayHold w ≡ not (eqb (meaningOf w) 0) && (not (eqb (meaningOf w) 33) && not (eqb (meaningOf w) 35))
-may-hold-number w h = same-table mayHold (λ w. byNumber (meaningOf w)) 256 false same w h
+pub may-hold-is : (w : ℕ) → w < 256 → mayHold w ≡ ((intactOf w && not (eqb w 15)) && not (eqb w 102))
+may-hold-is w h = same-table mayHold byOnes 256 false same w h
 
 -- the first word, by its value
 module _ (w : ℕ) where

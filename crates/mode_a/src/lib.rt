@@ -64,18 +64,11 @@ pub const ALPHAS: Words = Words(signals::ALPHA, signals::ALPHA, signals::ALPHA);
 
 pub const TURN: Words = Words(signals::BETA, signals::ALPHA, signals::BETA);
 
-// Whether a word may stand in a block: traffic or β.
+// Whether a word may stand in a block: traffic or β, which is every intact word but α and RQ.
 pub fn may_hold(word: u8) -> bool
     ensures { λ r. ⌜ r ≡ mayHold word ⌝ }
 {
-    let number = signals::meaning(word);
-    if number == 0 {
-        return false;
-    }
-    if number == 33 {
-        return false;
-    }
-    number != 35
+    signals::intact(word) & (word != signals::ALPHA) & (word != signals::RQ)
 }
 
 // What Sending holds: a block and its number.

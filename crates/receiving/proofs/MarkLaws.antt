@@ -50,7 +50,7 @@ unfolding intactOf
 intact-byte w e = let h = ltb-true w 128 (and-left (ltb w 128) (eqb (onesOf w) 4) e) in omega arith
 
 abbrev byMark : ℕ → ℕ
-byMark w = if eqb w 255 then 255 else if leb (meaningOf w) 32 then w else 0
+byMark w = if eqb w 15 || (eqb w 51 || eqb w 102) then 0 else w
 
 abbrev byRule : ℕ → ℕ
 byRule w = if trafficOf w then w else 0

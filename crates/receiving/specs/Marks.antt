@@ -1,10 +1,10 @@
 -- A settled position as one byte: the signal's word, 0 for phasing, 255 for an error. Assumes nothing.
 use mathlib.Core.Bool.{Bool, _&&_, _||_}
 use Prim.Native.Nat.{ℕ}
-use lib.Dec.{eqb, leb}
+use lib.Dec.{eqb}
 use Rattle.laws.specs.Choice.{if_then_else_}
 use Rattle.signals.specs.Units.{intactOf}
-use Rattle.signals.specs.Meaning.{meaningOf, alpha, rq}
+use Rattle.signals.specs.Meaning.{alpha, beta, rq}
 use Rattle.mode_b.specs.Sender.{carriageReturn, lineFeed}
 use Rattle.mode_b.specs.Receiver.{Settled, signal, phasing, error, settled, settledAlone}
 
@@ -34,4 +34,4 @@ printingMark printing m = printing || (eqb m carriageReturn || eqb m lineFeed)
 
 abbrev pub printedMark : Bool → ℕ → ℕ
 printedMark printing m =
-    if printingMark printing m then (if eqb m 255 then 255 else if leb (meaningOf m) 32 then m else 0) else 0
+    if printingMark printing m then (if eqb m alpha || (eqb m beta || eqb m rq) then 0 else m) else 0

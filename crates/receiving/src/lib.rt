@@ -173,20 +173,24 @@ fn printing_after(printing: bool, settled: u8) -> bool
     settled == mode_b::LINE_FEED
 }
 
-// What a settled position prints once printing has begun, or by beginning it; 0 for nothing.
+// What a settled position prints once printing has begun, or by beginning it; 0 for nothing. Its signal is intact: all but the three
+// service signals are traffic.
 fn printed_of(printing: bool, settled: u8) -> u8
     ensures { λ r. ⌜ r ≡ printedMark printing settled ⌝ }
 {
     if !printing_after(printing, settled) {
         return 0;
     }
-    if settled == ERROR_MARK {
-        return ERROR_MARK;
+    if settled == signals::ALPHA {
+        return 0;
     }
-    if signals::meaning(settled) <= 32 {
-        return settled;
+    if settled == signals::BETA {
+        return 0;
     }
-    0
+    if settled == signals::RQ {
+        return 0;
+    }
+    settled
 }
 
 // A word heard in an RX slot: the oldest waiting position is settled.

@@ -1,5 +1,6 @@
 // The sender of mode B: the word of any slot (01, Mode B; 001, 4.2, 4.4 and 4.6), found without a list of slots.
 ghost use mathlib.Core.Path.{_≡_};
+ghost use mathlib.Core.Bool.{true};
 ghost use Prim.Native.Nat.{_+_, _≤_, _<_};
 ghost use lib.ListN.{length, getD};
 ghost use Rattle.signals.specs.Meaning.{trafficOf};
@@ -15,29 +16,41 @@ pub enum At {
     Idle,
 }
 
-// Whether a word is traffic.
-fn is_traffic(word: u8) -> bool
-    ensures { λ r. ⌜ r ≡ trafficOf word ⌝ }
+// Whether every word is traffic. It looks at all of them, one like the other, so that the compiler can take sixteen at a time.
+fn all_traffic(text: &[u8]) -> bool
+    ensures { λ r. ⌜ (r ≡ true → firstNot trafficOf (now (text .entry)) ≡ length (now (text .entry))) ⌝ }
 {
-    let number = signals::meaning(word);
-    if number == 0 {
-        return false;
+    let mut all = true;
+    let mut i = 0;
+    while i < text.len() {
+        all = all & signals::is_traffic(text[i]);
+        i += 1;
     }
-    number <= 32
+    all
+}
+
+// The first word that is not traffic, found one by one.
+fn searched(text: &[u8]) -> usize
+    ensures { λ r. ⌜ r ≡ firstNot trafficOf (now (text .entry)) ⌝ }
+{
+    let mut i = 0;
+    while i < text.len() {
+        if !signals::is_traffic(text[i]) {
+            return i;
+        }
+        i += 1;
+    }
+    i
 }
 
 // The index of the first word that is not traffic; the length where all are.
 fn first_bad(text: &[u8]) -> usize
     ensures { λ r. ⌜ r ≡ firstNot trafficOf (now (text .entry)) ⌝ }
 {
-    let mut i = 0;
-    while i < text.len() {
-        if !is_traffic(text[i]) {
-            return i;
-        }
-        i += 1;
+    if all_traffic(text) {
+        return text.len();
     }
-    i
+    searched(text)
 }
 
 // How many positions a sending of n traffic signals has: 16 phasing, the traffic with four phasing after each 96 if more follows, 17 α.

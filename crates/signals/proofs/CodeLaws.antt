@@ -1,8 +1,9 @@
 -- What holds of every byte, and of every signal: each by one test that antt computes over all of them. Assumes nothing.
-use mathlib.Core.Path.{_≡_, refl}
+use mathlib.Core.Path.{_≡_, refl, ap}
 use mathlib.Core.Bool.{Bool, true, false, not, _&&_, Bool·beq}
 use Prim.Native.Nat.{ℕ, zero, suc, _+_, _≤_, _<_}
-use lib.Dec.{T, eqb, leb, leb→le}
+use lib.Dec.{T, eqb, leb, ltb, leb→le}
+use borrow.Author.Tests.{ltb-true}
 use lib.Count.{ones}
 use Rattle.laws.specs.Choice.{if_then_else_}
 use Rattle.laws.proofs.Below.{at-below, agree-below, both-left, both-right}
@@ -38,10 +39,10 @@ module _ (w : ℕ) (byte : w < 256) where
   meaning-le = leb→le _ _ (both-left (leb (meaningOf w) 35) _ (both-right (Bool·beq (intactOf w) (leb 1 (meaningOf w))) _ passes))
 
   -- a traffic signal is an intact word that is no service signal
-  pub traffic-is : trafficOf w ≡ (intactOf w && (not (eqb w 15) && (not (eqb w 51) && not (eqb w 102))))
+  pub traffic-is : trafficOf w ≡ (((intactOf w && not (eqb w 15)) && not (eqb w 51)) && not (eqb w 102))
   unfolding trafficOf intactOf onesOf meaningOf
   traffic-is =
-      same-table trafficOf (λ w. intactOf w && (not (eqb w 15) && (not (eqb w 51) && not (eqb w 102)))) 256 true refl w byte
+      same-table trafficOf (λ w. ((intactOf w && not (eqb w 15)) && not (eqb w 51)) && not (eqb w 102)) 256 true refl w byte
 
 -- how many numbers below n pass the test
 abbrev countBelow : (ℕ → Bool) → ℕ → ℕ
@@ -62,3 +63,12 @@ number-means n h = agree-below (λ n. meaningOf (wordNo (suc n))) (λ n. suc n) 
 pub ones-agree : (w : ℕ) → w < 128 → ones w ≡ onesOf w
 unfolding ones onesOf
 ones-agree w h = agree-below ones onesOf 128 tt w h
+
+-- so a word is intact where it is below 128 and has four ones by that count
+pub ones-intact : (w : ℕ) → (ltb w 128 && eqb (ones w) 4) ≡ intactOf w
+unfolding intactOf
+ones-intact w = go (ltb w 128) refl
+  where
+    go : (t : Bool) → ltb w 128 ≡ t → (t && eqb (ones w) 4) ≡ (t && eqb (onesOf w) 4)
+    go true e = ap (λ (n : ℕ). eqb n 4) (ones-agree w (ltb-true w 128 e))
+    go false e = refl

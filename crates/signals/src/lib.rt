@@ -345,26 +345,14 @@ pub fn meaning(word: u8) -> u8
 pub fn intact(word: u8) -> bool
     ensures { λ r. ⌜ r ≡ intactOf word ⌝ }
 {
-    if 128 <= word {
-        return false;
-    }
-    u8::count_ones(word) == 4
+    (word < 128) & (u8::count_ones(word) == 4)
 }
 
 // Whether a word is traffic: an intact word that is none of the three service signals.
 pub fn is_traffic(word: u8) -> bool
     ensures { λ r. ⌜ r ≡ trafficOf word ⌝ }
 {
-    if !intact(word) {
-        return false;
-    }
-    if word == ALPHA {
-        return false;
-    }
-    if word == BETA {
-        return false;
-    }
-    word != RQ
+    intact(word) & (word != ALPHA) & (word != BETA) & (word != RQ)
 }
 
 // The row of the signal with the number `at` + 1.

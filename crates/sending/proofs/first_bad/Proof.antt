@@ -1,70 +1,20 @@
--- `sending::first_bad` meets its contract: what is passed is traffic. Assumes nothing.
-use mathlib.Core.Path.{_≡_, sym, _∙_}
-use Prim.Native.Nat.{_+_, _-_, _≤_}
-use native.Mathlib.Omega.{arith}
-use lib.ListN.{length, drop}
+-- `sending::first_bad` meets its contract. Assumes nothing.
+use mathlib.Core.Path.{sym}
 use borrow.Author.Needs.{needs}
-use borrow.Author.Tests.{not-true, not-false}
-use Rattle.signals.specs.Meaning.{trafficOf}
-use Rattle.signals.specs.Numbers.{firstNot}
-use Rattle.signals.proofs.NumberLaws.{first-next, first-here, first-end}
 use Rattle.sending.proofs.first_bad.Statement.{statement}
 use Rattle.sending.proofs.first_bad.Tie as tie
 
-abbrev Inv-loop : tie.InvT-loop
-Inv-loop text i₀ i = (i ≤ length text) × (i + firstNot trafficOf (drop i text) ≡ firstNot trafficOf text)
+all-traffic-requires : tie.Need-all-traffic-requires
+all-traffic-requires c κs = search needs
 
-abbrev μ-loop : tie.MeasureT-loop
-μ-loop text i₀ i = length text - i
+returns : tie.Need-returns
+returns c = sym (c .before .all-traffic .ensures (c .if1 .taken))
 
-loop-holds : tie.Need-loop-holds Inv-loop μ-loop
-loop-holds c = (omega arith, omega arith)
+searched-requires : tie.Need-searched-requires
+searched-requires c κs = search needs
 
-shared-slice-read-is-traffic : tie.Need-shared-slice-read-is-traffic Inv-loop μ-loop
-shared-slice-read-is-traffic c = omega arith
-
-is-traffic-requires : tie.Need-is-traffic-requires Inv-loop μ-loop
-is-traffic-requires c κs = search needs
-
-returns : tie.Need-returns Inv-loop μ-loop
-returns c =
-    let a = c .before .before .before .before .before .before in
-    let l = c .before .before .before .before .loop in
-    let here = first-here trafficOf (a .args .text .now) (l .i) (c .before .before .before .loop-test .taken) (sym (c .before .is-traffic .ensures) ∙ not-true _ (c .if1 .taken)) in
-    omega (arith, l .inv .1)
-
-add-i : tie.Need-add-i Inv-loop μ-loop
-add-i c = omega arith
-
-loop-less : tie.Need-loop-less Inv-loop μ-loop
-loop-less c = omega arith
-
-loop-again : tie.Need-loop-again Inv-loop μ-loop
-loop-again c =
-    let a = c .before .before .before .before .before .before in
-    let l = c .before .before .before .before .loop in
-    let next = first-next trafficOf (a .args .text .now) (l .i) (c .before .before .before .loop-test .taken) (sym (c .before .is-traffic .ensures) ∙ not-false _ (c .if1 .left)) in
-    (omega arith, omega (arith, l .inv .1))
-
-returns-2 : tie.Need-returns-2 Inv-loop μ-loop
-returns-2 c =
-    let a = c .before .before .before in
-    let l = c .before .loop in
-    let e : l .i ≡ length (a .args .text .now) = omega (arith, l .inv .0, c .loop-test .left) in
-    let last : firstNot trafficOf (drop (l .i) (a .args .text .now)) ≡ 0 = rw e (first-end trafficOf (a .args .text .now)) in
-    omega (arith, l .inv .1)
+returns-2 : tie.Need-returns-2
+returns-2 c = search needs
 
 pub first-bad-spec : {M : Type 1} → statement M
-first-bad-spec =
-    tie.close
-    (tie.spec
-    Inv-loop
-    μ-loop
-    loop-holds
-    shared-slice-read-is-traffic
-    is-traffic-requires
-    returns
-    add-i
-    loop-less
-    loop-again
-    returns-2)
+first-bad-spec = tie.close (tie.spec all-traffic-requires returns searched-requires returns-2)
