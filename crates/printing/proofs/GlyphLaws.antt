@@ -1,20 +1,16 @@
--- The byte of a word, read off the tables, is what the word prints; the table of glyphs that the rows fill, and the test
--- of a word: each by one test that antt computes over all 256 bytes. Assumes nothing.
+-- The byte of a word, read off the tables, is what the word prints, and it stands in the table that the rows fill: each by
+-- one test that antt computes over all 256 bytes, in each case. Assumes nothing.
 use mathlib.Core.Path.{_≡_, refl, ap, _∙_}
-use mathlib.Core.Bool.{Bool, true, false, not, _||_, _&&_}
 use mathlib.Core.List.{List, [], _∷_}
 use Prim.Native.Nat.{ℕ, zero, suc, _+_, _<_}
 use native.Mathlib.Numerals.{add-one}
-use native.Mathlib.Omega.{arith}
-use lib.Count.{ones}
-use lib.Dec.{eqb, ltb}
 use lib.ListN.{getD, set, replicate}
 use Rattle.laws.proofs.Table.{tabFrom, tab-at, same-table}
 use Rattle.signals.specs.declared.Case.{Case}
 use Rattle.signals.specs.declared.Case.the-variants.{Letters, Figures}
 use Rattle.signals.specs.Rows.{rowOf}
-use Rattle.signals.specs.Meaning.{meaningOf, trafficOf}
-use Rattle.text.specs.Printing.{bytesOf, mayPrint}
+use Rattle.signals.specs.Meaning.{meaningOf}
+use Rattle.text.specs.Printing.{bytesOf}
 use Rattle.printing.specs.Glyph.{column, glyphOf, GlyphsOf, putOf}
 
 same : (c : Case) → tabFrom (λ w. putOf (glyphOf c w)) 256 0 ≡ tabFrom (bytesOf c) 256 0
@@ -53,15 +49,3 @@ full Figures = refl
 
 pub all-filled : (c : Case) → GlyphsOf c (filled c 35)
 all-filled c = record { at = λ w h. ap (λ (l : List ℕ). getD l w 0) (full c) ∙ tab-at (glyphOf c) 256 0 w h }
-
--- a word may stand: the error mark, or an intact word that is no service signal
-pub may-is : (w : ℕ) → w < 256 → mayPrint w ≡ (eqb w 255 || (((((ltb w 128 && eqb (ones w) 4) && not (eqb w 15)) && not (eqb w 51)) && not (eqb w 102))))
-unfolding mayPrint trafficOf meaningOf ones
-may-is w h = same-table mayPrint (λ w. eqb w 255 || (((((ltb w 128 && eqb (ones w) 4) && not (eqb w 15)) && not (eqb w 51)) && not (eqb w 102)))) 256 true refl w h
-
-pub both-true : (a b : Bool) → (a && b) ≡ true → (a ≡ true) × (b ≡ true)
-both-true true b e = (refl, e)
-both-true false b e = absurd (not-both e)
-  where
-    not-both : false ≡ true → ⊥
-    not-both e = let z : _≡_ {A = ℕ} 0 1 = cc in omega arith

@@ -1,5 +1,5 @@
-// Printing: signals to operator's characters (01, Text). A list is judged whole before a byte is written, in a loop without
-// branches, and then printed run by run: a run is the words up to the next shift to the other case.
+// Printing: signals to operator's characters (01, Text). The list is judged whole before a byte is written, and then printed
+// run by run: a run is the words up to the next shift to the other case.
 ghost use mathlib.Core.Bool.{true};
 ghost use mathlib.Core.Path.{_≡_};
 ghost use Prim.Native.Nat.{_+_, _≤_};
@@ -35,22 +35,16 @@ pub struct End {
     pub ends: Case,
 }
 
-// Whether a word may stand in a list that is printed: traffic, or the error mark. No table and no branch: so the loop over
-// it takes many words at a time.
+// Whether a word may stand in a list that is printed: traffic, or the error mark.
 fn may_print(word: u8) -> bool
     ensures { λ r. ⌜ r ≡ mayPrint word ⌝ }
 {
-    (word == ERROR_MARK)
-        | ((word < 128)
-            & (u8::count_ones(word) == 4)
-            & (word != signals::ALPHA)
-            & (word != signals::BETA)
-            & (word != signals::RQ))
+    signals::is_traffic(word) | (word == ERROR_MARK)
 }
 
-// Whether all the words may stand. It reads on past a word that may not: a loop that stops early takes one word at a time.
+// Whether every word may stand. It looks at all of them, one like the other, so that the compiler can take sixteen at a time.
 fn all_may(words: &[u8]) -> bool
-    ensures { λ r. ⌜ (r ≡ true → length (now (words .entry)) ≤ firstNot mayPrint (now (words .entry))) ⌝ }
+    ensures { λ r. ⌜ (r ≡ true → firstNot mayPrint (now (words .entry)) ≡ length (now (words .entry))) ⌝ }
 {
     let mut all = true;
     let mut i = 0;
@@ -61,13 +55,10 @@ fn all_may(words: &[u8]) -> bool
     all
 }
 
-// The index of the first word that may not stand; the length where all may.
-fn first_bad(words: &[u8]) -> usize
+// The first word that may not stand, found one by one.
+fn searched(words: &[u8]) -> usize
     ensures { λ r. ⌜ r ≡ firstNot mayPrint (now (words .entry)) ⌝ }
 {
-    if all_may(words) {
-        return words.len();
-    }
     let mut i = 0;
     while i < words.len() {
         if !may_print(words[i]) {
@@ -76,6 +67,16 @@ fn first_bad(words: &[u8]) -> usize
         i += 1;
     }
     i
+}
+
+// The index of the first word that may not stand; the length where all may.
+fn first_bad(words: &[u8]) -> usize
+    ensures { λ r. ⌜ r ≡ firstNot mayPrint (now (words .entry)) ⌝ }
+{
+    if all_may(words) {
+        return words.len();
+    }
+    searched(words)
 }
 
 // How many bytes a word that may stand prints, in either case.

@@ -1,19 +1,22 @@
 -- `printing::all_may` meets its contract: while the answer is yes, what is passed may stand. Assumes nothing.
-use mathlib.Core.Bool.{true}
-use mathlib.Core.Path.{_≡_, sym, _∙_}
-use Prim.Native.Nat.{_+_, _-_, _≤_}
+use mathlib.Core.Path.{_≡_, refl, sym, _∙_}
+use mathlib.Core.Bool.{Bool, true, false, _&&_}
+use Prim.Native.Nat.{ℕ, _+_, _-_, _≤_}
 use native.Mathlib.Omega.{arith}
 use lib.ListN.{length, drop}
 use borrow.Author.Needs.{needs}
 use Rattle.signals.specs.Numbers.{firstNot}
 use Rattle.signals.proofs.NumberLaws.{first-next, first-end}
 use Rattle.text.specs.Printing.{mayPrint}
-use Rattle.printing.proofs.GlyphLaws.{both-true}
 use Rattle.printing.proofs.all_may.Statement.{statement}
 use Rattle.printing.proofs.all_may.Tie as tie
 use Rattle.printing.proofs.all_may.Reads as reads
 use Rattle.printing.proofs.all_may.Lts as lts
 use Rattle.printing.proofs.may_print.Reads as may-print-reads
+
+both : (a b : Bool) → (a && b) ≡ true → (a ≡ true) × (b ≡ true)
+both true b e = (refl, e)
+both false b e = let z : _≡_ {A = ℕ} 0 1 = cc in absurd (omega arith)
 
 abbrev Inv-loop : tie.InvT-loop
 Inv-loop words all₀ i₀ all i = (i ≤ length words) × (all ≡ true → i + firstNot mayPrint (drop i words) ≡ firstNot mayPrint words)
@@ -42,9 +45,9 @@ loop-again c =
     let l = c .before .before .before .loop in (
       omega arith,
       λ t.
-          let both = both-true (l .all) (c .may-print .result) t in
-          let next = first-next mayPrint (a .args .words .now) (l .i) (c .before .before .loop-test .taken) (sym (c .may-print .ensures) ∙ both .1) in
-          omega (arith, l .inv .1 (both .0)),
+          let held = both (l .all) (c .may-print .result) t in
+          let next = first-next mayPrint (a .args .words .now) (l .i) (c .before .before .loop-test .taken) (sym (c .may-print .ensures) ∙ held .1) in
+          omega (arith, l .inv .1 (held .0)),
     )
 
 returns : tie.Need-returns Inv-loop μ-loop

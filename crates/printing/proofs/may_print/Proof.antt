@@ -1,13 +1,15 @@
--- `printing::may_print` meets its contract: the tests say what may be printed, for every byte. Assumes nothing.
-use mathlib.Core.Path.{sym}
-use Rattle.printing.proofs.GlyphLaws.{may-is}
+-- `printing::may_print` meets its contract. Assumes nothing.
+use borrow.Author.Needs.{needs}
+use Rattle.text.specs.Printing.{mayPrint}
 use Rattle.printing.proofs.may_print.Statement.{statement}
 use Rattle.printing.proofs.may_print.Tie as tie
-use Rattle.printing.proofs.may_print.Reads as reads
-use Rattle.printing.proofs.may_print.Lts as lts
+
+is-traffic-requires : tie.Need-is-traffic-requires
+is-traffic-requires c κs = search needs
 
 returns : tie.Need-returns
-returns c = sym (may-is (c .args .word) (c .fits .word .fits))
+unfolding mayPrint
+returns c = rw (c .is-traffic .ensures)
 
 pub may-print-spec : {M : Type 1} → statement M
-may-print-spec = tie.close (tie.spec returns)
+may-print-spec = tie.close (tie.spec is-traffic-requires returns)
