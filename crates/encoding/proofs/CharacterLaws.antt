@@ -1,66 +1,122 @@
--- A byte's character, read off the row of the signal that has it: one test that antt computes over all 256 bytes.
+-- A byte's signals, read off the row of the signal that has it: tests that antt computes over all 256 bytes.
 -- Assumes nothing.
 use mathlib.Core.Path.{_≡_, refl, ap, sym, _∙_}
-use Prim.Native.Nat.{ℕ, zero, suc, _-_, _<_, _≤_}
+use mathlib.Core.Bool.{Bool, true, false}
+use mathlib.Core.List.{List, [], _∷_}
+use Prim.Native.Nat.{ℕ, zero, suc, _*_, _-_, _^_, _<_, _≤_}
 use native.Mathlib.Numerals.{sub-one}
-use lib.Dec.{eqb, leb, leb→le}
-use borrow.Author.Tests.{eq-eqb, ne-eqb}
+use native.Mathlib.Omega.{arith}
+use lib.Dec.{eqb, ltb, leb, leb→le}
+use lib.ListN.{getD}
+use borrow.Author.Tests.{eq-eqb, ne-eqb, lt-ltb, ltb-true}
 use Rattle.laws.specs.Choice.{if_then_else_}
 use Rattle.laws.proofs.Below.{at-below}
-use Rattle.laws.proofs.Table.{tabFrom, same-table}
+use Rattle.laws.proofs.Table.{tabFrom, tab-at, same-table}
+use Rattle.signals.specs.declared.Case.{Case}
 use Rattle.signals.specs.declared.Case.the-variants.{Letters, Figures}
 use Rattle.signals.specs.declared.Row.{Row}
+use Rattle.signals.specs.Meaning.{letters, figures}
 use Rattle.signals.specs.Rows.{rowOf}
-use Rattle.text.specs.declared.Character.{Character}
-use Rattle.text.specs.declared.Character.the-variants.{Without, Either, Needing}
-use Rattle.text.specs.Encoding.{characterOf}
-use Rattle.encoding.specs.Holder.{holderOf}
+use Rattle.text.specs.Encoding.{characterOf, hasSignal, signalsFor, caseAfter}
+use Rattle.encoding.specs.Holder.{holderOf, HasRow}
+
+-- what a byte gives in a case: its signals, and the case after them
+abbrev Turned : Type 0
+Turned = List ℕ × Case
+
+abbrev turned : Case → ℕ → Turned
+turned c x = (signalsFor c (characterOf x), caseAfter c (characterOf x))
 
 -- what a row says of the byte that it has
-abbrev pub byRow : Row → ℕ → Character
-byRow r x =
-    if eqb (r .1) (r .2) then Either (r .0) else if eqb (r .1) x then Needing Letters (r .0) else Needing Figures (r .0)
+abbrev pub column : Case → Row → ℕ
+column Letters r = r .1
+column Figures r = r .2
 
-byNumber : ℕ → ℕ → Character
-byNumber zero x = Without
-byNumber (suc n) x = byRow (rowOf n) x
+abbrev pub other : Case → Case
+other Letters = Figures
+other Figures = Letters
 
-same : tabFrom (λ x. byNumber (holderOf x) x) 256 0 ≡ tabFrom characterOf 256 0
+abbrev pub shiftFrom : Case → ℕ
+shiftFrom Letters = figures
+shiftFrom Figures = letters
+
+abbrev byRow : Case → Row → ℕ → Turned
+byRow c r x = if eqb (column c r) x then (r .0 ∷ [], c) else (shiftFrom c ∷ r .0 ∷ [], other c)
+
+byNumber : Case → ℕ → ℕ → Turned
+byNumber c zero x = ([], c)
+byNumber c (suc n) x = byRow c (rowOf n) x
+
+same : (c : Case) → tabFrom (λ x. byNumber c (holderOf x) x) 256 0 ≡ tabFrom (turned c) 256 0
 unfolding byNumber holderOf rowOf characterOf
-same = refl
+same Letters = refl
+same Figures = refl
+
+same-has : tabFrom (λ x. ltb 0 (holderOf x)) 256 0 ≡ tabFrom hasSignal 256 0
+unfolding holderOf characterOf
+same-has = refl
+
+-- the number read off the code's table, which is this list
+abbrev pub numberAt : ℕ → ℕ
+numberAt x = getD (tabFrom holderOf 256 0) x 0
 
 module _ (x : ℕ) (byte : x < 256) where
-  agrees : byNumber (holderOf x) x ≡ characterOf x
-  agrees = same-table (λ x. byNumber (holderOf x) x) characterOf 256 Without same x byte
-
-  pub holder-le : holderOf x ≤ 35
+  holder-le : holderOf x ≤ 35
   unfolding holderOf
   holder-le = leb→le _ _ (at-below (λ x. leb (holderOf x) 35) 256 tt x byte)
 
-  without : (n : ℕ) → n ≡ 0 → byNumber n x ≡ Without
+  agrees-has : ltb 0 (holderOf x) ≡ hasSignal x
+  agrees-has = same-table (λ x. ltb 0 (holderOf x)) hasSignal 256 false same-has x byte
+
+  has-number : hasSignal x ≡ true → 0 < holderOf x
+  has-number e = ltb-true 0 (holderOf x) (agrees-has ∙ e)
+
+  number-at : numberAt x ≡ holderOf x
+  number-at = tab-at holderOf 256 0 x byte
+
+  pub number-has : (numberAt x ≡ 0 → ⊥) → hasSignal x ≡ true
+  number-has f = sym agrees-has ∙ lt-ltb 0 (holderOf x) (omega (arith, number-at))
+
+  pub number-none : numberAt x ≡ 0 → hasSignal x ≡ false
+  number-none e = sym agrees-has ∙ ap (ltb 0) (sym number-at ∙ e)
+
+  number-le : numberAt x ≤ 35
+  number-le = rw number-at holder-le
+
+  -- it fits a word, and its row's place stands in the table of 35 rows, each of 3 bytes
+  pub number-fits : numberAt x < 2 ^ 64
+  number-fits = omega (arith, number-le)
+
+  pub place-fits : (numberAt x - 1) * 3 < 2 ^ 64
+  place-fits = omega (arith, number-le)
+
+  pub place-below : numberAt x - 1 < 35
+  place-below = omega (arith, number-le)
+
+  pub number-pos : hasSignal x ≡ true → 1 ≤ numberAt x
+  number-pos e = rw number-at (has-number e)
+
+  pub has-row : hasSignal x ≡ true → HasRow x (rowOf (numberAt x - 1))
+  has-row e = record { has = has-number e; row = ap (λ (n : ℕ). rowOf (n - 1)) number-at }
+
+  at-row : (c : Case) (n : ℕ) → 0 < n → byNumber c n x ≡ byRow c (rowOf (n - 1)) x
   unfolding byNumber
-  without zero e = refl
-  without (suc n) e = cc
+  at-row c zero f = absurd (omega arith)
+  at-row c (suc n) f = ap (λ (m : ℕ). byRow c (rowOf m) x) (sym (sub-one (suc n)))
 
-  at-row : (n : ℕ) → (n ≡ 0 → ⊥) → byNumber n x ≡ byRow (rowOf (n - 1)) x
-  unfolding byNumber
-  at-row zero f = absurd (f refl)
-  at-row (suc n) f = ap (λ (m : ℕ). byRow (rowOf m) x) (sym (sub-one (suc n)))
+  module _ (r : Row) (h : HasRow x r) (c : Case) where
+    read : byRow c r x ≡ turned c x
+    read =
+        ap (λ (r : Row). byRow c r x) (h .row)
+        ∙ sym (at-row c (holderOf x) (h .has))
+        ∙ same-table (λ x. byNumber c (holderOf x) x) (turned c) 256 ([], c) (same c) x byte
 
-  pub character-without : (n : ℕ) → n ≡ holderOf x → n ≡ 0 → Without ≡ characterOf x
-  character-without n h e = sym (without n e) ∙ ap (λ (n : ℕ). byNumber n x) h ∙ agrees
+    pub stands : column c r ≡ x → (signalsFor c (characterOf x) ≡ r .0 ∷ []) × (caseAfter c (characterOf x) ≡ c)
+    stands e =
+        let t = rw (eq-eqb (column c r) x e) at read in
+        (ap (λ (t : Turned). t .0) (sym t), ap (λ (t : Turned). t .1) (sym t))
 
-  -- n is the number read off the table of characters, and r the row read there
-  module _ (n : ℕ) (h : n ≡ holderOf x) (f : n ≡ 0 → ⊥) (r : Row) (e : r ≡ rowOf (n - 1)) where
-    read : byRow r x ≡ characterOf x
-    read = ap (λ (r : Row). byRow r x) e ∙ sym (at-row n f) ∙ ap (λ (n : ℕ). byNumber n x) h ∙ agrees
-
-    pub character-either : r .1 ≡ r .2 → Either (r .0) ≡ characterOf x
-    character-either a = rw (eq-eqb (r .1) (r .2) a) at read
-
-    module _ (a : r .1 ≡ r .2 → ⊥) where
-      pub character-letter : r .1 ≡ x → Needing Letters (r .0) ≡ characterOf x
-      character-letter b = rw (ne-eqb (r .1) (r .2) a, eq-eqb (r .1) x b) at read
-
-      pub character-figure : (r .1 ≡ x → ⊥) → Needing Figures (r .0) ≡ characterOf x
-      character-figure b = rw (ne-eqb (r .1) (r .2) a, ne-eqb (r .1) x b) at read
+    pub shifts : (column c r ≡ x → ⊥) → (signalsFor c (characterOf x) ≡ shiftFrom c ∷ r .0 ∷ []) × (caseAfter c (characterOf x) ≡ other c)
+    shifts f =
+        let t = rw (ne-eqb (column c r) x f) at read in
+        (ap (λ (t : Turned). t .0) (sym t), ap (λ (t : Turned). t .1) (sym t))
