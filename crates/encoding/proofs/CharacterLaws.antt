@@ -2,22 +2,21 @@
 -- Assumes nothing.
 use mathlib.Core.Path.{_≡_, refl, ap, sym, _∙_}
 use mathlib.Core.Bool.{Bool, true, false}
-use mathlib.Core.List.{List, [], _∷_}
-use Prim.Native.Nat.{ℕ, zero, suc, _*_, _-_, _^_, _<_, _≤_}
+use mathlib.Core.List.{List, [], _∷_, _++_}
+use Prim.Native.Nat.{ℕ, zero, suc, _-_, _<_, _≤_}
 use native.Mathlib.Numerals.{sub-one}
 use native.Mathlib.Omega.{arith}
 use lib.Dec.{eqb, ltb, leb, leb→le}
-use lib.ListN.{getD}
-use borrow.Author.Tests.{eq-eqb, ne-eqb, lt-ltb, ltb-true}
+use borrow.Author.Tests.{eq-eqb, ne-eqb, eqb-true, eqb-false, lt-ltb, ltb-true}
 use Rattle.laws.specs.Choice.{if_then_else_}
 use Rattle.laws.proofs.Below.{at-below}
-use Rattle.laws.proofs.Table.{tabFrom, tab-at, same-table}
+use Rattle.laws.proofs.Table.{tabFrom, same-table}
 use Rattle.signals.specs.declared.Case.{Case}
 use Rattle.signals.specs.declared.Case.the-variants.{Letters, Figures}
 use Rattle.signals.specs.declared.Row.{Row}
 use Rattle.signals.specs.Meaning.{letters, figures}
 use Rattle.signals.specs.Rows.{rowOf}
-use Rattle.text.specs.Encoding.{characterOf, hasSignal, signalsFor, caseAfter}
+use Rattle.text.specs.Encoding.{characterOf, hasSignal, shift, signalsFor, caseAfter}
 use Rattle.encoding.specs.Holder.{holderOf, HasRow}
 
 -- what a byte gives in a case: its signals, and the case after them
@@ -40,6 +39,14 @@ abbrev pub shiftFrom : Case → ℕ
 shiftFrom Letters = figures
 shiftFrom Figures = letters
 
+shift-none : (c : Case) → shift c c ≡ []
+shift-none Letters = refl
+shift-none Figures = refl
+
+shift-one : (c : Case) → shift c (other c) ≡ shiftFrom c ∷ []
+shift-one Letters = refl
+shift-one Figures = refl
+
 abbrev byRow : Case → Row → ℕ → Turned
 byRow c r x = if eqb (column c r) x then (r .0 ∷ [], c) else (shiftFrom c ∷ r .0 ∷ [], other c)
 
@@ -56,10 +63,6 @@ same-has : tabFrom (λ x. ltb 0 (holderOf x)) 256 0 ≡ tabFrom hasSignal 256 0
 unfolding holderOf characterOf
 same-has = refl
 
--- the number read off the code's table, which is this list
-abbrev pub numberAt : ℕ → ℕ
-numberAt x = getD (tabFrom holderOf 256 0) x 0
-
 module _ (x : ℕ) (byte : x < 256) where
   holder-le : holderOf x ≤ 35
   unfolding holderOf
@@ -71,33 +74,23 @@ module _ (x : ℕ) (byte : x < 256) where
   has-number : hasSignal x ≡ true → 0 < holderOf x
   has-number e = ltb-true 0 (holderOf x) (agrees-has ∙ e)
 
-  number-at : numberAt x ≡ holderOf x
-  number-at = tab-at holderOf 256 0 x byte
+  -- n is the number read off the table
+  module _ (n : ℕ) (e : n ≡ holderOf x) where
+    pub number-has : (n ≡ 0 → ⊥) → hasSignal x ≡ true
+    number-has f = sym agrees-has ∙ lt-ltb 0 (holderOf x) (omega arith)
 
-  pub number-has : (numberAt x ≡ 0 → ⊥) → hasSignal x ≡ true
-  number-has f = sym agrees-has ∙ lt-ltb 0 (holderOf x) (omega (arith, number-at))
+    pub number-none : n ≡ 0 → hasSignal x ≡ false
+    number-none z = sym agrees-has ∙ ap (ltb 0) (sym e ∙ z)
 
-  pub number-none : numberAt x ≡ 0 → hasSignal x ≡ false
-  number-none e = sym agrees-has ∙ ap (ltb 0) (sym number-at ∙ e)
+    pub number-le : n ≤ 35
+    number-le = omega (arith, holder-le)
 
-  number-le : numberAt x ≤ 35
-  number-le = rw number-at holder-le
+    module _ (has : hasSignal x ≡ true) where
+      pub number-pos : 1 ≤ n
+      number-pos = omega (arith, has-number has)
 
-  -- it fits a word, and its row's place stands in the table of 35 rows, each of 3 bytes
-  pub number-fits : numberAt x < 2 ^ 64
-  number-fits = omega (arith, number-le)
-
-  pub place-fits : (numberAt x - 1) * 3 < 2 ^ 64
-  place-fits = omega (arith, number-le)
-
-  pub place-below : numberAt x - 1 < 35
-  place-below = omega (arith, number-le)
-
-  pub number-pos : hasSignal x ≡ true → 1 ≤ numberAt x
-  number-pos e = rw number-at (has-number e)
-
-  pub has-row : hasSignal x ≡ true → HasRow x (rowOf (numberAt x - 1))
-  has-row e = record { has = has-number e; row = ap (λ (n : ℕ). rowOf (n - 1)) number-at }
+      pub has-row : HasRow x (rowOf (n - 1))
+      has-row = record { has = has-number has; row = ap (λ (n : ℕ). rowOf (n - 1)) e }
 
   at-row : (c : Case) (n : ℕ) → 0 < n → byNumber c n x ≡ byRow c (rowOf (n - 1)) x
   unfolding byNumber
@@ -120,3 +113,11 @@ module _ (x : ℕ) (byte : x < 256) where
     shifts f =
         let t = rw (ne-eqb (column c r) x f) at read in
         (ap (λ (t : Turned). t .0) (sym t), ap (λ (t : Turned). t .1) (sym t))
+
+    -- the shift, if any, and then the signal
+    pub shift-then : signalsFor c (characterOf x) ≡ shift c (caseAfter c (characterOf x)) ++ r .0 ∷ []
+    shift-then = go (eqb (column c r) x) refl
+      where
+        go : (b : Bool) → eqb (column c r) x ≡ b → signalsFor c (characterOf x) ≡ shift c (caseAfter c (characterOf x)) ++ r .0 ∷ []
+        go true e = let s = stands (eqb-true _ _ e) in rw (s .0, s .1, shift-none c)
+        go false e = let s = shifts (eqb-false _ _ e) in rw (s .0, s .1, shift-one c)

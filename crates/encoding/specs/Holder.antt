@@ -6,6 +6,7 @@ use mathlib.Core.Bool.{_||_}
 use mathlib.Core.List.{List, [], _∷_}
 use Prim.Native.Nat.{ℕ, suc, _-_, _<_}
 use lib.Dec.{eqb}
+use lib.ListN.{getD}
 use Rattle.laws.specs.Choice.{if_then_else_}
 use Rattle.signals.specs.declared.Row.{Row}
 use Rattle.signals.specs.Rows.{rowOf}
@@ -21,6 +22,10 @@ holderIn (mute w ∷ ss) n x = holderIn ss (suc n) x
 
 unfoldable pub holderOf : ℕ → ℕ
 holderOf x = holderIn signals 1 x
+
+-- the table of characters, in the code's form: at each byte the number of the signal that has it
+abbrev pub Numbers : List ℕ → Type 0
+Numbers l = (x : ℕ) → x < 256 → getD l x 0 ≡ holderOf x
 
 -- a signal has the byte x, and r is its row
 pub record HasRow (x : ℕ) (r : Row) : Type 0 where

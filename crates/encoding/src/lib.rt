@@ -4,8 +4,8 @@ ghost use Prim.Native.Nat.{_+_, _≤_};
 ghost use lib.ListN.{length};
 ghost use Rattle.laws.specs.Room.{Wrote};
 ghost use Rattle.signals.specs.Numbers.{firstNot};
-ghost use Rattle.text.specs.Encoding.{characterOf, hasSignal, signalsFor, caseAfter, encoded, endsEncoded, Encodes};
-ghost use Rattle.encoding.specs.Holder.{HasRow};
+ghost use Rattle.text.specs.Encoding.{characterOf, hasSignal, shift, signalsFor, caseAfter, encoded, endsEncoded, Encodes};
+ghost use Rattle.encoding.specs.Holder.{Numbers, HasRow};
 use signals::Case;
 use signals::Row;
 use text::Encoded;
@@ -278,10 +278,10 @@ const NUMBER: [u8; 256] = [
 
 
 // The index of the first byte without a signal; the text's length where each has one.
-fn first_without(text: &[u8]) -> usize
+fn first_without(text: &[u8], numbers: &[u8; 256]) -> usize
+    requires { ⌜ Numbers (now numbers) ⌝ }
     ensures { λ r. ⌜ r ≡ firstNot hasSignal (now (text .entry)) ⌝ }
 {
-    let numbers = NUMBER;
     let mut i = 0;
     while i < text.len() {
         if numbers[text[i] as usize] == 0 {
@@ -329,10 +329,10 @@ fn past(from: Reached, byte: u8, row: Row) -> Reached
     }
 }
 
-// Writes a byte's signals, the shift first where it needs one (see `past`).
-fn put(room: &mut [u8], from: Reached, byte: u8, row: Row) -> Reached
-    requires { ⌜ HasRow byte row × (from .at + length (signalsFor (from .case) (characterOf byte)) ≤ length (now room)) ⌝ }
-    ensures { λ r. ⌜ Wrote (now (room .entry)) (from .at) (signalsFor (from .case) (characterOf byte)) (r .at) (now (room .exit)) ⌝ }
+// Writes the shift that a byte needs before its signal, if any (see `past`).
+fn put_shift(room: &mut [u8], from: Reached, byte: u8, row: Row) -> Reached
+    requires { ⌜ HasRow byte row × (from .at + length (shift (from .case) (caseAfter (from .case) (characterOf byte))) ≤ length (now room)) ⌝ }
+    ensures { λ r. ⌜ Wrote (now (room .entry)) (from .at) (shift (from .case) (caseAfter (from .case) (characterOf byte))) (r .at) (now (room .exit)) ⌝ }
     ensures { λ r. ⌜ r .case ≡ caseAfter (from .case) (characterOf byte) ⌝ }
 {
     let at = from.at;
@@ -340,43 +340,45 @@ fn put(room: &mut [u8], from: Reached, byte: u8, row: Row) -> Reached
     match case {
         Case::Letters => {
             if row.1 == byte {
-                room[at] = row.0;
-                return Reached {
-                    at: at + 1,
-                    case: Case::Letters,
-                };
+                return from;
             }
             room[at] = signals::FIGURES;
-            room[at + 1] = row.0;
             Reached {
-                at: at + 2,
+                at: at + 1,
                 case: Case::Figures,
             }
         }
         Case::Figures => {
             if row.2 == byte {
-                room[at] = row.0;
-                return Reached {
-                    at: at + 1,
-                    case: Case::Figures,
-                };
+                return from;
             }
             room[at] = signals::LETTERS;
-            room[at + 1] = row.0;
             Reached {
-                at: at + 2,
+                at: at + 1,
                 case: Case::Letters,
             }
         }
     }
 }
 
+// Writes a byte's signals.
+fn put(room: &mut [u8], from: Reached, byte: u8, row: Row) -> Reached
+    requires { ⌜ HasRow byte row × (from .at + length (signalsFor (from .case) (characterOf byte)) ≤ length (now room)) ⌝ }
+    ensures { λ r. ⌜ Wrote (now (room .entry)) (from .at) (signalsFor (from .case) (characterOf byte)) (r .at) (now (room .exit)) ⌝ }
+    ensures { λ r. ⌜ r .case ≡ caseAfter (from .case) (characterOf byte) ⌝ }
+{
+    let to = put_shift(room, from, byte, row);
+    let at = to.at;
+    room[at] = row.0;
+    let case = to.case;
+    Reached { at: at + 1, case }
+}
+
 // The room that the text's signals need.
-fn room_for(text: &[u8], case: Case) -> usize
-    requires { ⌜ (length (now text) ≤ 4096) × (length (now text) ≤ firstNot hasSignal (now text)) ⌝ }
+fn room_for(text: &[u8], numbers: &[u8; 256], case: Case) -> usize
+    requires { ⌜ Numbers (now numbers) × (length (now text) ≤ 4096) × (length (now text) ≤ firstNot hasSignal (now text)) ⌝ }
     ensures { λ r. ⌜ r ≡ length (encoded case (now (text .entry))) ⌝ }
 {
-    let numbers = NUMBER;
     let rows = signals::ROWS;
     let mut to = Reached { at: 0, case };
     let mut i = 0;
@@ -390,12 +392,11 @@ fn room_for(text: &[u8], case: Case) -> usize
 }
 
 // Writes the text's signals at the start of the room.
-fn write(text: &[u8], case: Case, room: &mut [u8]) -> Reached
-    requires { ⌜ (length (now text) ≤ firstNot hasSignal (now text)) × (length (encoded case (now text)) ≤ length (now room)) ⌝ }
+fn write(text: &[u8], numbers: &[u8; 256], case: Case, room: &mut [u8]) -> Reached
+    requires { ⌜ Numbers (now numbers) × (length (now text) ≤ firstNot hasSignal (now text)) × (length (encoded case (now text)) ≤ length (now room)) ⌝ }
     ensures { λ r. ⌜ Wrote (now (room .entry)) 0 (encoded case (now (text .entry))) (r .at) (now (room .exit)) ⌝ }
     ensures { λ r. ⌜ r .case ≡ endsEncoded case (now (text .entry)) ⌝ }
 {
-    let numbers = NUMBER;
     let rows = signals::ROWS;
     let mut to = Reached { at: 0, case };
     let mut i = 0;
@@ -416,18 +417,19 @@ pub fn encode(text: &[u8], case: Case, room: &mut [u8]) -> Encoded
     if 4096 < text.len() {
         return Encoded::TooLong;
     }
-    let first = first_without(text);
+    let numbers = NUMBER;
+    let first = first_without(text, &numbers);
     if first < text.len() {
         return Encoded::NoSignal(first);
     }
     // A character takes two signals at most, so only a shorter room has to be measured.
     if room.len() < 2 * text.len() {
-        let needed = room_for(text, case);
+        let needed = room_for(text, &numbers, case);
         if room.len() < needed {
             return Encoded::NoRoom(needed);
         }
     }
-    let end = write(text, case, room);
+    let end = write(text, &numbers, case, room);
     let ends = end.case;
     Encoded::Written {
         count: end.at,

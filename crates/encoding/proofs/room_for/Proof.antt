@@ -3,8 +3,7 @@ use Prim.Native.Nat.{_-_, _<_}
 use native.Mathlib.Omega.{arith}
 use lib.ListN.{length, getD}
 use Rattle.signals.specs.Rows.{rowOf}
-use Rattle.encoding.specs.Holder.{holderOf}
-use Rattle.encoding.proofs.CharacterLaws.{number-fits, number-pos, place-fits, place-below, has-row}
+use Rattle.encoding.proofs.CharacterLaws.{number-le, number-pos, has-row}
 use Rattle.encoding.proofs.WriteLaws.{Turning, turn-starts, turn-small, turn-next, turn-count, has-at}
 use Rattle.encoding.proofs.room_for.Statement.{statement}
 use Rattle.encoding.proofs.room_for.Tie as tie
@@ -27,51 +26,52 @@ shared-slice-read-byte c = omega arith
 cast-row : tie.Need-cast-row Inv-loop μ-loop
 cast-row c = omega (arith, c .shared-slice-known2 .given (c .before .before .loop .i))
 
-array-read-row : tie.Need-array-read-row Inv-loop μ-loop
-array-read-row c = omega (arith, c .shared-slice-known2 .given (c .before .before .loop .i))
+element-copy-out-row : tie.Need-element-copy-out-row Inv-loop μ-loop
+element-copy-out-row c = omega (arith, c .shared-slice-known2 .given (c .before .before .loop .i))
 
 cast-row-2 : tie.Need-cast-row-2 Inv-loop μ-loop
-unfolding holderOf
 cast-row-2 c =
-    let text = c .before .before .before .before .args .text .now in
-    let i = c .before .before .loop .i in
-    let byte : getD text i 0 < 256 = omega (arith, c .shared-slice-known2 .given i) in
-    record { fits = number-fits (getD text i 0) byte }
-
-sub-row : tie.Need-sub-row Inv-loop μ-loop
-unfolding holderOf
-sub-row c =
-    let text = c .before .before .before .before .args .text .now in
-    let i = c .before .before .loop .i in
-    let byte : getD text i 0 < 256 = omega (arith, c .shared-slice-known2 .given i) in
-    number-pos (getD text i 0) byte (has-at text i (c .before .before .before .before .pre .1) (c .before .loop-test .taken))
-
-mul-row : tie.Need-mul-row Inv-loop μ-loop
-unfolding holderOf
-mul-row c =
-    let text = c .before .before .before .before .args .text .now in
-    let i = c .before .before .loop .i in
-    let byte : getD text i 0 < 256 = omega (arith, c .shared-slice-known2 .given i) in
-    record { fits = place-fits (getD text i 0) byte }
-
-array-copy-out-row : tie.Need-array-copy-out-row Inv-loop μ-loop
-unfolding holderOf
-array-copy-out-row c =
-    let text = c .before .before .before .before .args .text .now in
-    let i = c .before .before .loop .i in
-    let byte : getD text i 0 < 256 = omega (arith, c .shared-slice-known2 .given i) in
-    place-below (getD text i 0) byte
-
-past-requires : tie.Need-past-requires Inv-loop μ-loop
-unfolding holderOf rowOf
-past-requires c κs =
     let a = c .before .before .before .before .before in
     let text = a .args .text .now in
-    let l = c .before .before .before .loop in
-    let byte : getD text (l .i) 0 < 256 = omega (arith, c .before .shared-slice-known2 .given (l .i)) in
-    let in-text = c .before .before .loop-test .taken in
+    let i = c .before .before .before .loop .i in
+    let byte : getD text i 0 < 256 = omega (arith, c .before .shared-slice-known2 .given i) in
+    omega (arith, number-le (getD text i 0) byte _ (a .pre .0 (getD text i 0) byte))
+
+sub-row : tie.Need-sub-row Inv-loop μ-loop
+sub-row c =
+    let a = c .before .before .before .before .before in
+    let text = a .args .text .now in
+    let i = c .before .before .before .loop .i in
+    let byte : getD text i 0 < 256 = omega (arith, c .before .shared-slice-known2 .given i) in
+    number-pos (getD text i 0) byte _ (a .pre .0 (getD text i 0) byte) (has-at text i (a .pre .2) (c .before .before .loop-test .taken))
+
+mul-row : tie.Need-mul-row Inv-loop μ-loop
+mul-row c =
+    let a = c .before .before .before .before .before in
+    let text = a .args .text .now in
+    let i = c .before .before .before .loop .i in
+    let byte : getD text i 0 < 256 = omega (arith, c .before .shared-slice-known2 .given i) in
+    omega (arith, number-le (getD text i 0) byte _ (a .pre .0 (getD text i 0) byte))
+
+array-copy-out-row : tie.Need-array-copy-out-row Inv-loop μ-loop
+array-copy-out-row c =
+    let a = c .before .before .before .before .before in
+    let text = a .args .text .now in
+    let i = c .before .before .before .loop .i in
+    let byte : getD text i 0 < 256 = omega (arith, c .before .shared-slice-known2 .given i) in
+    omega (arith, number-le (getD text i 0) byte _ (a .pre .0 (getD text i 0) byte))
+
+past-requires : tie.Need-past-requires Inv-loop μ-loop
+unfolding rowOf
+past-requires c κs =
+    let a = c .before .before .before .before .before .before in
+    let text = a .args .text .now in
+    let l = c .before .before .before .before .loop in
+    let x = getD text (l .i) 0 in
+    let byte : x < 256 = omega (arith, c .before .before .shared-slice-known2 .given (l .i)) in
+    let in-text = c .before .before .before .loop-test .taken in
     let small = turn-small text (a .args .case) (l .to .at) (l .to .case) (l .i) (l .inv) in
-    (has-row (getD text (l .i) 0) byte (has-at text (l .i) (a .pre .1) in-text), omega (arith, a .pre .0))
+    (has-row x byte _ (a .pre .0 x byte) (has-at text (l .i) (a .pre .2) in-text), omega (arith, a .pre .1))
 
 add-i : tie.Need-add-i Inv-loop μ-loop
 add-i c = omega arith
@@ -81,10 +81,10 @@ loop-less c = omega arith
 
 loop-again : tie.Need-loop-again Inv-loop μ-loop
 loop-again c =
-    let a = c .before .before .before .before .before .before in
-    let l = c .before .before .before .before .loop in
+    let a = c .before .before .before .before .before .before .before in
+    let l = c .before .before .before .before .before .loop in
     turn-next (a .args .text .now) (a .args .case) (l .to .at) (l .to .case) (l .i) (l .inv)
-    (c .before .before .before .loop-test .taken)
+    (c .before .before .before .before .loop-test .taken)
     (c .past .result .at)
     (c .past .ensures .0)
     (c .past .result .case)
@@ -105,7 +105,7 @@ room-for-spec =
     loop-holds
     shared-slice-read-byte
     cast-row
-    array-read-row
+    element-copy-out-row
     cast-row-2
     sub-row
     mul-row
