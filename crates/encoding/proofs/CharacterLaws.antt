@@ -85,12 +85,15 @@ module _ (x : ℕ) (byte : x < 256) where
     pub number-le : n ≤ 35
     number-le = omega (arith, holder-le)
 
+    pub place-below : n - 1 < 35
+    place-below = omega (arith, number-le)
+
     module _ (has : hasSignal x ≡ true) where
       pub number-pos : 1 ≤ n
       number-pos = omega (arith, has-number has)
 
-      pub has-row : HasRow x (rowOf (n - 1))
-      has-row = record { has = has-number has; row = ap (λ (n : ℕ). rowOf (n - 1)) e }
+      pub has-row : (r : Row) → r ≡ rowOf (n - 1) → HasRow x r
+      has-row r p = record { has = has-number has; row = p ∙ ap (λ (n : ℕ). rowOf (n - 1)) e }
 
   at-row : (c : Case) (n : ℕ) → 0 < n → byNumber c n x ≡ byRow c (rowOf (n - 1)) x
   unfolding byNumber

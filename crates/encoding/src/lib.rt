@@ -5,7 +5,7 @@ ghost use lib.ListN.{length};
 ghost use Rattle.laws.specs.Room.{Wrote};
 ghost use Rattle.signals.specs.Numbers.{firstNot};
 ghost use Rattle.text.specs.Encoding.{characterOf, hasSignal, shift, signalsFor, caseAfter, encoded, endsEncoded, Encodes};
-ghost use Rattle.encoding.specs.Holder.{Numbers, HasRow};
+ghost use Rattle.encoding.specs.Holder.{Numbers, Rows, HasRow};
 use signals::Case;
 use signals::Row;
 use text::Encoded;
@@ -375,11 +375,10 @@ fn put(room: &mut [u8], from: Reached, byte: u8, row: Row) -> Reached
 }
 
 // The room that the text's signals need.
-fn room_for(text: &[u8], numbers: &[u8; 256], case: Case) -> usize
-    requires { ⌜ Numbers (now numbers) × (length (now text) ≤ 4096) × (length (now text) ≤ firstNot hasSignal (now text)) ⌝ }
+fn room_for(text: &[u8], numbers: &[u8; 256], rows: [Row; 35], case: Case) -> usize
+    requires { ⌜ Numbers (now numbers) × Rows rows × (length (now text) ≤ 4096) × (length (now text) ≤ firstNot hasSignal (now text)) ⌝ }
     ensures { λ r. ⌜ r ≡ length (encoded case (now (text .entry))) ⌝ }
 {
-    let rows = signals::ROWS;
     let mut to = Reached { at: 0, case };
     let mut i = 0;
     while i < text.len() {
@@ -392,12 +391,11 @@ fn room_for(text: &[u8], numbers: &[u8; 256], case: Case) -> usize
 }
 
 // Writes the text's signals at the start of the room.
-fn write(text: &[u8], numbers: &[u8; 256], case: Case, room: &mut [u8]) -> Reached
-    requires { ⌜ Numbers (now numbers) × (length (now text) ≤ firstNot hasSignal (now text)) × (length (encoded case (now text)) ≤ length (now room)) ⌝ }
+fn write(text: &[u8], numbers: &[u8; 256], rows: [Row; 35], case: Case, room: &mut [u8]) -> Reached
+    requires { ⌜ Numbers (now numbers) × Rows rows × (length (now text) ≤ firstNot hasSignal (now text)) × (length (encoded case (now text)) ≤ length (now room)) ⌝ }
     ensures { λ r. ⌜ Wrote (now (room .entry)) 0 (encoded case (now (text .entry))) (r .at) (now (room .exit)) ⌝ }
     ensures { λ r. ⌜ r .case ≡ endsEncoded case (now (text .entry)) ⌝ }
 {
-    let rows = signals::ROWS;
     let mut to = Reached { at: 0, case };
     let mut i = 0;
     while i < text.len() {
@@ -422,14 +420,15 @@ pub fn encode(text: &[u8], case: Case, room: &mut [u8]) -> Encoded
     if first < text.len() {
         return Encoded::NoSignal(first);
     }
+    let rows = signals::ROWS;
     // A character takes two signals at most, so only a shorter room has to be measured.
     if room.len() < 2 * text.len() {
-        let needed = room_for(text, &numbers, case);
+        let needed = room_for(text, &numbers, rows, case);
         if room.len() < needed {
             return Encoded::NoRoom(needed);
         }
     }
-    let end = write(text, &numbers, case, room);
+    let end = write(text, &numbers, rows, case, room);
     let ends = end.case;
     Encoded::Written {
         count: end.at,

@@ -1,6 +1,6 @@
 -- `encoding::encode` meets its contract: its table of characters is the definition, listed over all 256 bytes, and at each
 -- answer stands the law of that answer. Assumes nothing.
-use mathlib.Core.Path.{_∙_}
+use mathlib.Core.Path.{refl, _∙_}
 use mathlib.Core.Logic.{⊎-elim}
 use Prim.Native.Nat.{_≤_}
 use native.Mathlib.Nat.{zero-add}
@@ -9,6 +9,7 @@ use lib.ListN.{length}
 use Rattle.laws.proofs.Table.{tab-at}
 use Rattle.laws.proofs.Writes.{sets-over}
 use Rattle.signals.specs.Numbers.{firstNot}
+use Rattle.signals.specs.Rows.{rowOf}
 use Rattle.text.specs.Encoding.{hasSignal, encoded, endsEncoded}
 use Rattle.text.proofs.AnswerLaws.{too-long, bad-entry, no-room, all-written}
 use Rattle.text.proofs.EncodingLaws.{encoding-judged, encoded-le}
@@ -48,9 +49,9 @@ mul-if3 : tie.Need-mul-if3
 mul-if3 c = search needs
 
 room-for-requires : tie.Need-room-for-requires
-unfolding holderOf
+unfolding holderOf rowOf
 room-for-requires c κs =
-    (tab-at holderOf 256 0, c .before .before .before .before .before .if1 .left, omega (arith, c .before .before .before .first-without .ensures, c .before .before .if2 .left))
+    (tab-at holderOf 256 0, (λ at h. refl), c .before .before .before .before .before .if1 .left, omega (arith, c .before .before .before .first-without .ensures, c .before .before .if2 .left))
 
 returns-3 : tie.Need-returns-3
 returns-3 c =
@@ -64,14 +65,14 @@ returns-3 c =
     (no-room 4096 5 1 (length text) (firstNot hasSignal text) room (record { bytes = encoded case text; ends = endsEncoded case text }) (c .before .before .before .before .before .before .before .if1 .left) (omega (arith, f .ensures, c .before .before .before .before .if2 .left)) (n .result) (n .ensures) (c .if4 .taken))
 
 write-requires : tie.Need-write-requires
-unfolding holderOf
+unfolding holderOf rowOf
 write-requires c κs =
     let a = c .before .before .before .before .before .before .before .before .before in
     let text = a .args .text .now in
     let case = a .args .case in
     let room = a .args .room .now in
     let fits : length (encoded case text) ≤ length room = ⊎-elim (λ w. omega (arith, encoded-le case text)) (λ w. omega (arith, encoded-le case text)) (c .before .before .if3 .came) in
-    (tab-at holderOf 256 0, omega (arith, c .before .before .before .before .first-without .ensures, c .before .before .before .if2 .left), fits)
+    (tab-at holderOf 256 0, (λ at h. refl), omega (arith, c .before .before .before .before .first-without .ensures, c .before .before .before .if2 .left), fits)
 
 same-length : tie.Need-same-length
 same-length c = search needs
@@ -92,7 +93,7 @@ returns-4 c =
     (omega (arith, w .ensures .0 .ended))
     (w .result .case)
     (w .ensures .1)
-    (w .last .1 .1 .1 .0)
+    (w .last .1 .1 .1 .1 .0)
     (w .ensures .0 .holds ∙ sets-over room (encoded case text) fits))
 
 pub encode-spec : {M : Type 1} → statement M

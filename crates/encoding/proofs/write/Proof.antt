@@ -3,8 +3,7 @@
 use Prim.Native.Nat.{_-_, _<_}
 use native.Mathlib.Omega.{arith}
 use lib.ListN.{length, getD}
-use Rattle.signals.specs.Rows.{rowOf}
-use Rattle.encoding.proofs.CharacterLaws.{number-le, number-pos, has-row}
+use Rattle.encoding.proofs.CharacterLaws.{number-le, number-pos, place-below, has-row}
 use Rattle.encoding.proofs.WriteLaws.{Writing, write-starts, write-next, write-ends, turn-room, turn-end, has-at}
 use Rattle.encoding.proofs.write.Statement.{statement}
 use Rattle.encoding.proofs.write.Tie as tie
@@ -45,7 +44,7 @@ sub-row c =
     let text = a .args .text .now in
     let i = c .before .before .before .loop .i in
     let byte : getD text i 0 < 256 = omega (arith, c .before .shared-slice-known2 .given i) in
-    number-pos (getD text i 0) byte _ (a .pre .0 (getD text i 0) byte) (has-at text i (a .pre .1) (c .before .before .loop-test .taken))
+    number-pos (getD text i 0) byte _ (a .pre .0 (getD text i 0) byte) (has-at text i (a .pre .2) (c .before .before .loop-test .taken))
 
 mul-row : tie.Need-mul-row Inv-loop μ-loop
 mul-row c =
@@ -64,7 +63,6 @@ array-copy-out-row c =
     omega (arith, number-le (getD text i 0) byte _ (a .pre .0 (getD text i 0) byte))
 
 put-requires : tie.Need-put-requires Inv-loop μ-loop
-unfolding rowOf
 put-requires c κs =
     let a = c .before .before .before .before .before .before .before .before in
     let text = a .args .text .now in
@@ -73,7 +71,9 @@ put-requires c κs =
     let byte : x < 256 = omega (arith, c .before .before .before .shared-slice-known2 .given (l .i)) in
     let in-text = c .before .before .before .before .loop-test .taken in
     let room = turn-room text (a .args .case) (l .to .at) (l .to .case) (l .i) (l .inv .turning) in-text in
-    (has-row x byte _ (a .pre .0 x byte) (has-at text (l .i) (a .pre .1) in-text), omega (arith, a .pre .2, l .inv .same))
+    let n = a .pre .0 x byte in
+    let row = a .pre .1 _ (place-below x byte _ n) in
+    (has-row x byte _ n (has-at text (l .i) (a .pre .2) in-text) _ row, omega (arith, a .pre .3, l .inv .same))
 
 add-i : tie.Need-add-i Inv-loop μ-loop
 add-i c = omega arith
