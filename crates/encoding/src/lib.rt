@@ -277,6 +277,19 @@ const NUMBER: [u8; 256] = [
 ];
 
 
+// The tables. A constant is built anew wherever it is used: `encode` builds each once, before its loops.
+fn numbers() -> [u8; 256]
+    ensures { λ r. ⌜ Numbers r ⌝ }
+{
+    NUMBER
+}
+
+fn rows() -> [Row; 35]
+    ensures { λ r. ⌜ Rows r ⌝ }
+{
+    signals::ROWS
+}
+
 // The index of the first byte without a signal; the text's length where each has one.
 fn first_without(text: &[u8], numbers: &[u8; 256]) -> usize
     requires { ⌜ Numbers (now numbers) ⌝ }
@@ -415,12 +428,12 @@ pub fn encode(text: &[u8], case: Case, room: &mut [u8]) -> Encoded
     if 4096 < text.len() {
         return Encoded::TooLong;
     }
-    let numbers = NUMBER;
+    let numbers = numbers();
     let first = first_without(text, &numbers);
     if first < text.len() {
         return Encoded::NoSignal(first);
     }
-    let rows = signals::ROWS;
+    let rows = rows();
     // A character takes two signals at most, so only a shorter room has to be measured.
     if room.len() < 2 * text.len() {
         let needed = room_for(text, &numbers, rows, case);

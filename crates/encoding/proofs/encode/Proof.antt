@@ -1,26 +1,24 @@
--- `encoding::encode` meets its contract: its table of characters is the definition, listed over all 256 bytes, and at each
--- answer stands the law of that answer. Assumes nothing.
-use mathlib.Core.Path.{refl, _∙_}
+-- `encoding::encode` meets its contract: at each answer the law of that answer. Assumes nothing.
+use mathlib.Core.Path.{_∙_}
 use mathlib.Core.Logic.{⊎-elim}
 use Prim.Native.Nat.{_≤_}
 use native.Mathlib.Nat.{zero-add}
 use native.Mathlib.Omega.{arith}
 use lib.ListN.{length}
-use Rattle.laws.proofs.Table.{tab-at}
 use Rattle.laws.proofs.Writes.{sets-over}
 use Rattle.signals.specs.Numbers.{firstNot}
-use Rattle.signals.specs.Rows.{rowOf}
 use Rattle.text.specs.Encoding.{hasSignal, encoded, endsEncoded}
 use Rattle.text.proofs.AnswerLaws.{too-long, bad-entry, no-room, all-written}
 use Rattle.text.proofs.EncodingLaws.{encoding-judged, encoded-le}
-use Rattle.encoding.specs.Holder.{holderOf}
 use borrow.Author.Needs.{needs}
 use Rattle.encoding.proofs.encode.Statement.{statement}
 use Rattle.encoding.proofs.encode.Tie as tie
 use Rattle.encoding.proofs.encode.Reads as reads
 use Rattle.encoding.proofs.encode.Lts as lts
 use Rattle.encoding.proofs.first_without.Reads as first-without-reads
+use Rattle.encoding.proofs.numbers.Reads as numbers-reads
 use Rattle.encoding.proofs.room_for.Reads as room-for-reads
+use Rattle.encoding.proofs.rows.Reads as rows-reads
 use Rattle.encoding.proofs.write.Reads as write-reads
 
 returns : tie.Need-returns
@@ -31,63 +29,65 @@ returns c =
     let room = a .args .room .now in
     rw encoding-judged (too-long 4096 5 1 (length text) (firstNot hasSignal text) room (record { bytes = encoded case text; ends = endsEncoded case text }) (c .if1 .taken))
 
+numbers-requires : tie.Need-numbers-requires
+numbers-requires c κs = search needs
+
 first-without-requires : tie.Need-first-without-requires
-unfolding holderOf
-first-without-requires c κs = tab-at holderOf 256 0
+first-without-requires c κs = search needs
 
 returns-2 : tie.Need-returns-2
 returns-2 c =
-    let a = c .before .before .before .before .before .before in
+    let a = c .before .before .before .before .before .before .before in
     let text = a .args .text .now in
     let case = a .args .case in
     let room = a .args .room .now in
     let f = c .before .first-without in
     rw encoding-judged
-    (bad-entry 4096 5 1 (length text) (firstNot hasSignal text) room (record { bytes = encoded case text; ends = endsEncoded case text }) (c .before .before .before .if1 .left) (f .result) (f .ensures) (omega (arith, f .ensures, c .if2 .taken)))
+    (bad-entry 4096 5 1 (length text) (firstNot hasSignal text) room (record { bytes = encoded case text; ends = endsEncoded case text }) (c .before .before .before .before .if1 .left) (f .result) (f .ensures) (omega (arith, f .ensures, c .if2 .taken)))
+
+rows-requires : tie.Need-rows-requires
+rows-requires c κs = search needs
 
 mul-if3 : tie.Need-mul-if3
 mul-if3 c = search needs
 
 room-for-requires : tie.Need-room-for-requires
-unfolding holderOf rowOf
-room-for-requires c κs =
-    (tab-at holderOf 256 0, (λ at h. refl), c .before .before .before .before .before .if1 .left, omega (arith, c .before .before .before .first-without .ensures, c .before .before .if2 .left))
+room-for-requires c κs = search needs
 
 returns-3 : tie.Need-returns-3
 returns-3 c =
-    let a = c .before .before .before .before .before .before .before .before .before .before in
+    let a = c .before .before .before .before .before .before .before .before .before .before .before .before in
     let text = a .args .text .now in
     let case = a .args .case in
     let room = a .args .room .now in
-    let f = c .before .before .before .before .before .first-without in
+    let f = c .before .before .before .before .before .before .first-without in
     let n = c .before .room-for in
     rw encoding-judged
-    (no-room 4096 5 1 (length text) (firstNot hasSignal text) room (record { bytes = encoded case text; ends = endsEncoded case text }) (c .before .before .before .before .before .before .before .if1 .left) (omega (arith, f .ensures, c .before .before .before .before .if2 .left)) (n .result) (n .ensures) (c .if4 .taken))
+    (no-room 4096 5 1 (length text) (firstNot hasSignal text) room (record { bytes = encoded case text; ends = endsEncoded case text }) (c .before .before .before .before .before .before .before .before .before .if1 .left) (omega (arith, f .ensures, c .before .before .before .before .before .if2 .left)) (n .result) (n .ensures) (c .if4 .taken))
 
 write-requires : tie.Need-write-requires
-unfolding holderOf rowOf
 write-requires c κs =
-    let a = c .before .before .before .before .before .before .before .before .before in
+    let a = c .before .before .before .before .before .before .before .before .before .before .before in
     let text = a .args .text .now in
     let case = a .args .case in
     let room = a .args .room .now in
     let fits : length (encoded case text) ≤ length room = ⊎-elim (λ w. omega (arith, encoded-le case text)) (λ w. omega (arith, encoded-le case text)) (c .before .before .if3 .came) in
-    (tab-at holderOf 256 0, (λ at h. refl), omega (arith, c .before .before .before .before .first-without .ensures, c .before .before .before .if2 .left), fits)
+    (c .before .before .before .before .before .before .before .numbers .ensures, c .before .before .before .rows .ensures, omega (arith, c .before .before .before .before .before .first-without .ensures, c .before .before .before .before .if2 .left), fits)
 
 same-length : tie.Need-same-length
 same-length c = search needs
 
 returns-4 : tie.Need-returns-4
 returns-4 c =
-    let a = c .before .before .before .before .before .before .before .before .before .before .before .before in
+    let a = c .before .before .before .before .before .before .before .before .before .before .before .before .before .before in
     let text = a .args .text .now in
     let case = a .args .case in
     let room = a .args .room .now in
     let fits : length (encoded case text) ≤ length room = ⊎-elim (λ w. omega (arith, encoded-le case text)) (λ w. omega (arith, encoded-le case text)) (c .before .before .before .before .before .if3 .came) in
-    let f = c .before .before .before .before .before .before .before .first-without in
+    let f = c .before .before .before .before .before .before .before .before .first-without in
     let w = c .before .before .write in
     rw encoding-judged
-    (all-written 4096 5 1 (length text) (firstNot hasSignal text) room (record { bytes = encoded case text; ends = endsEncoded case text }) (c .before .before .before .before .before .before .before .before .before .if1 .left) (omega (arith, f .ensures, c .before .before .before .before .before .before .if2 .left))
+    (all-written 4096 5 1 (length text) (firstNot hasSignal text) room (record { bytes = encoded case text; ends = endsEncoded case text }) (c .before .before .before .before .before .before .before .before .before .before .before .if1 .left) (omega (arith, f .ensures, c .before .before .before .before .before .before .before .if2 .left))
     (w .result .at)
     (w .ensures .0 .ended ∙ zero-add _)
     (omega (arith, w .ensures .0 .ended))
@@ -101,8 +101,10 @@ encode-spec =
     tie.close
     (tie.spec
     returns
+    numbers-requires
     first-without-requires
     returns-2
+    rows-requires
     mul-if3
     room-for-requires
     returns-3
