@@ -276,7 +276,6 @@ const NUMBER: [u8; 256] = [
     0,
 ];
 
-
 // The tables. A constant is built anew wherever it is used: `encode` builds each once, before its loops.
 fn numbers() -> [u8; 256]
     ensures { λ r. ⌜ Numbers r ⌝ }
@@ -306,7 +305,7 @@ fn first_without(text: &[u8], numbers: &[u8; 256]) -> usize
 }
 
 // The place behind a byte's signals. A byte that does not stand in the column of the case in force needs the other case,
-// and a shift to it; one that is the same in either case stands in both.
+// and a shift to it; one that is the same in either case stands in both columns.
 fn past(from: Reached, byte: u8, row: Row) -> Reached
     requires { ⌜ HasRow byte row × (from .at ≤ 8192) ⌝ }
     ensures { λ r. ⌜ r .at ≡ from .at + length (signalsFor (from .case) (characterOf byte)) ⌝ }
@@ -316,28 +315,22 @@ fn past(from: Reached, byte: u8, row: Row) -> Reached
     let case = from.case;
     match case {
         Case::Letters => {
-            if row.1 == byte {
+            if row.1 != byte {
                 return Reached {
-                    at: at + 1,
-                    case: Case::Letters,
-                };
-            }
-            Reached {
-                at: at + 2,
-                case: Case::Figures,
-            }
-        }
-        Case::Figures => {
-            if row.2 == byte {
-                return Reached {
-                    at: at + 1,
+                    at: at + 2,
                     case: Case::Figures,
                 };
             }
-            Reached {
-                at: at + 2,
-                case: Case::Letters,
+            Reached { at: at + 1, case }
+        }
+        Case::Figures => {
+            if row.2 != byte {
+                return Reached {
+                    at: at + 2,
+                    case: Case::Letters,
+                };
             }
+            Reached { at: at + 1, case }
         }
     }
 }

@@ -17,7 +17,7 @@ add-t8 c = search needs
 returns : tie.Need-returns
 returns c =
     let a = c .before .before .before .before in
-    let s = stands (a .args .byte) (a .fits .byte .fits) (a .args .row) (a .pre .0) Letters (c .if1 .taken) in
+    let s = shifts (a .args .byte) (a .fits .byte .fits) (a .args .row) (a .pre .0) Letters (c .if1 .taken) in
     rw (c .before .before .enum-told .given .1, s .0, s .1) (refl, refl)
 
 add-t10 : tie.Need-add-t10
@@ -26,28 +26,28 @@ add-t10 c = search needs
 enum-told-2 : tie.Need-enum-told-2
 enum-told-2 c = search needs
 
-add-t13 : tie.Need-add-t13
-add-t13 c = search needs
+add-t12 : tie.Need-add-t12
+add-t12 c = search needs
 
 returns-2 : tie.Need-returns-2
 returns-2 c =
     let a = c .before .before .before .before in
-    let s = stands (a .args .byte) (a .fits .byte .fits) (a .args .row) (a .pre .0) Figures (c .if2 .taken) in
+    let s = shifts (a .args .byte) (a .fits .byte .fits) (a .args .row) (a .pre .0) Figures (c .if2 .taken) in
     rw (c .before .before .enum-told2 .given .1, s .0, s .1) (refl, refl)
 
-add-t15 : tie.Need-add-t15
-add-t15 c = search needs
+add-t14 : tie.Need-add-t14
+add-t14 c = search needs
 
 returns-3 : tie.Need-returns-3
 returns-3 c =
     let a = c .before .before .before .before in
-    let s = shifts (a .args .byte) (a .fits .byte .fits) (a .args .row) (a .pre .0) Letters (c .if1 .left) in
+    let s = stands (a .args .byte) (a .fits .byte .fits) (a .args .row) (a .pre .0) Letters (c .if1 .left) in
     rw (c .before .before .enum-told .given .1, s .0, s .1) (refl, refl)
 
 returns-4 : tie.Need-returns-4
 returns-4 c =
     let a = c .before .before .before .before in
-    let s = shifts (a .args .byte) (a .fits .byte .fits) (a .args .row) (a .pre .0) Figures (c .if2 .left) in
+    let s = stands (a .args .byte) (a .fits .byte .fits) (a .args .row) (a .pre .0) Figures (c .if2 .left) in
     rw (c .before .before .enum-told2 .given .1, s .0, s .1) (refl, refl)
 
 pub past-spec : {M : Type 1} → statement M
@@ -59,8 +59,8 @@ past-spec =
     returns
     add-t10
     enum-told-2
-    add-t13
+    add-t12
     returns-2
-    add-t15
+    add-t14
     returns-3
     returns-4)

@@ -45,12 +45,13 @@ returns c =
     let a = c .before .before .before .before .before in
     let first = shift (a .args .from .case) (caseAfter (a .args .from .case) (characterOf (a .args .byte))) in
     let parts = shift-then (a .args .byte) (a .fits .byte .fits) (a .args .row) (a .pre .0) (a .args .from .case) in
-    let p = c .before .before .put-shift in
-    (rw parts
-    (wrote-then (a .args .room .now) (a .args .from .at) first (a .args .row .0 ∷ []) (p .result .at) _ (p .last .0) _
-    (p .ensures .0)
-    (record { ended = refl; holds = refl })),
-    p .ensures .1)
+    let p = c .before .before .put-shift in (
+      rw parts
+          (wrote-then (a .args .room .now) (a .args .from .at) first (a .args .row .0 ∷ []) (p .result .at) _ (p .last .0) _
+          (p .ensures .0)
+          (record { ended = refl; holds = refl })),
+      p .ensures .1,
+    )
 
 pub put-spec : {M : Type 1} → statement M
 put-spec = tie.close (tie.spec put-shift-requires slice-write-room add-t11 same-length returns)

@@ -101,9 +101,10 @@ same-length c = c .before .loop .inv .same
 returns : tie.Need-returns Inv-loop μ-loop
 returns c =
     let a = c .before .before .before .before in
-    let l = c .before .loop in
-    (write-ends (a .args .text .now) (a .args .case) (a .args .room .now) (l .room) (l .to .at) (l .to .case) (l .i) (l .inv) (c .loop-test .left),
-     turn-end (a .args .text .now) (a .args .case) (l .to .at) (l .to .case) (l .i) (l .inv .turning) (c .loop-test .left))
+    let l = c .before .loop in (
+      write-ends (a .args .text .now) (a .args .case) (a .args .room .now) (l .room) (l .to .at) (l .to .case) (l .i) (l .inv) (c .loop-test .left),
+      turn-end (a .args .text .now) (a .args .case) (l .to .at) (l .to .case) (l .i) (l .inv .turning) (c .loop-test .left),
+    )
 
 pub write-spec : {M : Type 1} → statement M
 write-spec =
