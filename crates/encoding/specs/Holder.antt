@@ -1,10 +1,15 @@
--- The code's table of characters: the number of the signal that has a byte as its letter, figure or character.
+-- The code's table of characters: the number of the signal that has a byte as its letter, figure or character; and that
+-- signal's row.
 -- Assumes nothing.
+use mathlib.Core.Path.{_≡_}
 use mathlib.Core.Bool.{_||_}
 use mathlib.Core.List.{List, [], _∷_}
-use Prim.Native.Nat.{ℕ, suc}
+use Prim.Native.Nat.{ℕ, suc, _-_, _<_}
 use lib.Dec.{eqb}
+use lib.ListN.{getD}
 use Rattle.laws.specs.Choice.{if_then_else_}
+use Rattle.signals.specs.declared.Row.{Row}
+use Rattle.signals.specs.Rows.{row, rowOf}
 use Rattle.signals.specs.Signals.{Signal, pair, lone, free, mute, signals}
 
 -- counted from n; 0 where no signal has it
@@ -17,3 +22,16 @@ holderIn (mute w ∷ ss) n x = holderIn ss (suc n) x
 
 unfoldable pub holderOf : ℕ → ℕ
 holderOf x = holderIn signals 1 x
+
+-- the table of characters, in the code's form: at each byte the number of the signal that has it
+abbrev pub Numbers : List ℕ → Type 0
+Numbers l = (x : ℕ) → x < 256 → getD l x 0 ≡ holderOf x
+
+-- the table of rows, in the code's form
+abbrev pub Rows : List Row → Type 0
+Rows l = (at : ℕ) → at < 35 → getD l at (row 0 0 0) ≡ rowOf at
+
+-- a signal has the byte x, and r is its row
+pub record HasRow (x : ℕ) (r : Row) : Type 0 where
+  pub has : 0 < holderOf x
+  pub row : r ≡ rowOf (holderOf x - 1)

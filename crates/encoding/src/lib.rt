@@ -3,13 +3,18 @@ ghost use mathlib.Core.Path.{_≡_};
 ghost use Prim.Native.Nat.{_+_, _≤_};
 ghost use lib.ListN.{length};
 ghost use Rattle.laws.specs.Room.{Wrote};
-ghost use Rattle.text.specs.Encoding.{characterOf, isCharacter, hasSignal, shift, signalsFor, caseAfter, encoded, endsEncoded, Encodes};
-ghost use Rattle.text.specs.Survey.{surveyOf};
-ghost use Rattle.encoding.specs.Holder.{holderOf};
+ghost use Rattle.signals.specs.Numbers.{firstNot};
+ghost use Rattle.text.specs.Encoding.{characterOf, hasSignal, shift, signalsFor, caseAfter, encoded, endsEncoded, Encodes};
+ghost use Rattle.encoding.specs.Holder.{Numbers, Rows, HasRow};
 use signals::Case;
-use text::Character;
+use signals::Row;
 use text::Encoded;
-use text::Surveyed;
+
+// How far a text is turned: the place behind the last signal, and the case in force there.
+pub struct Reached {
+    at: usize,
+    case: Case,
+}
 
 // Every byte, from 0, and the number of the signal that has it as a character; 0 where none has.
 const NUMBER: [u8; 256] = [
@@ -271,155 +276,141 @@ const NUMBER: [u8; 256] = [
     0,
 ];
 
-// The number of the signal that has the byte as a character; 0 where none has.
-fn holder(byte: u8) -> u8
-    ensures { λ r. ⌜ r ≡ holderOf byte ⌝ }
+// The tables. A constant is built anew wherever it is used: `encode` builds each once, before its loops.
+fn numbers() -> [u8; 256]
+    ensures { λ r. ⌜ Numbers r ⌝ }
 {
-    NUMBER[byte as usize]
+    NUMBER
 }
 
-// What a byte is to the encoder. The signal's row tells the case: the same byte in both columns needs none.
-fn character(byte: u8) -> Character
-    ensures { λ r. ⌜ r ≡ characterOf byte ⌝ }
+fn rows() -> [Row; 35]
+    ensures { λ r. ⌜ Rows r ⌝ }
 {
-    let number = holder(byte);
-    if number == 0 {
-        return Character::Without;
-    }
-    let row = signals::row_at((number - 1) as usize);
-    if row.1 == row.2 {
-        return Character::Either(row.0);
-    }
-    if row.1 == byte {
-        return Character::Needing(Case::Letters, row.0);
-    }
-    Character::Needing(Case::Figures, row.0)
+    signals::ROWS
 }
 
-fn has_signal(character: Character) -> bool
-    ensures { λ r. ⌜ r ≡ isCharacter character ⌝ }
+// The index of the first byte without a signal; the text's length where each has one.
+fn first_without(text: &[u8], numbers: &[u8; 256]) -> usize
+    requires { ⌜ Numbers (now numbers) ⌝ }
+    ensures { λ r. ⌜ r ≡ firstNot hasSignal (now (text .entry)) ⌝ }
 {
-    match character {
-        Character::Without => false,
-        Character::Either(_) => true,
-        Character::Needing(_, _) => true,
-    }
-}
-
-// How many shifts stand before a signal that needs a case.
-fn shifts(from: Case, needed: Case) -> usize
-    ensures { λ r. ⌜ r ≡ length (shift from needed) ⌝ }
-{
-    match from {
-        Case::Letters => match needed {
-            Case::Letters => 0,
-            Case::Figures => 1,
-        },
-        Case::Figures => match needed {
-            Case::Letters => 1,
-            Case::Figures => 0,
-        },
-    }
-}
-
-// How many signals a character takes, in the case in force.
-fn signals_for(case: Case, character: Character) -> usize
-    ensures { λ r. ⌜ r ≡ length (signalsFor case character) ⌝ }
-{
-    match character {
-        Character::Without => 0,
-        Character::Either(_) => 1,
-        Character::Needing(needed, _) => shifts(case, needed) + 1,
-    }
-}
-
-fn case_after(case: Case, character: Character) -> Case
-    ensures { λ r. ⌜ r ≡ caseAfter case character ⌝ }
-{
-    match character {
-        Character::Without => case,
-        Character::Either(_) => case,
-        Character::Needing(needed, _) => needed,
-    }
-}
-
-// The first byte without a signal, or the room that the text needs and the case that it ends in.
-fn survey(text: &[u8], case: Case) -> Surveyed
-    requires { ⌜ length (now text) ≤ 4096 ⌝ }
-    ensures { λ r. ⌜ r ≡ surveyOf hasSignal encoded endsEncoded (now (text .entry)) case ⌝ }
-{
-    let mut room = 0;
-    let mut ends = case;
     let mut i = 0;
     while i < text.len() {
-        let character = character(text[i]);
-        if !has_signal(character) {
-            return Surveyed::Bad(i);
+        if numbers[text[i] as usize] == 0 {
+            return i;
         }
-        room += signals_for(ends, character);
-        ends = case_after(ends, character);
         i += 1;
     }
-    Surveyed::Needs { room, ends }
+    i
 }
 
-// Writes the shift that a signal needs before it, if any, from `to` on; answers the place past it.
-fn put_shift(room: &mut [u8], to: usize, from: Case, needed: Case) -> usize
-    requires { ⌜ to + length (shift from needed) ≤ length (now room) ⌝ }
-    ensures { λ r. ⌜ Wrote (now (room .entry)) to (shift from needed) r (now (room .exit)) ⌝ }
+// The place behind a byte's signals. A byte that does not stand in the column of the case in force needs the other case,
+// and a shift to it; one that is the same in either case stands in both columns.
+fn past(from: Reached, byte: u8, row: Row) -> Reached
+    requires { ⌜ HasRow byte row × (from .at ≤ 8192) ⌝ }
+    ensures { λ r. ⌜ r .at ≡ from .at + length (signalsFor (from .case) (characterOf byte)) ⌝ }
+    ensures { λ r. ⌜ r .case ≡ caseAfter (from .case) (characterOf byte) ⌝ }
 {
-    match from {
-        Case::Letters => match needed {
-            Case::Letters => to,
-            Case::Figures => {
-                room[to] = signals::FIGURES;
-                to + 1
+    let at = from.at;
+    let case = from.case;
+    match case {
+        Case::Letters => {
+            if row.1 != byte {
+                return Reached {
+                    at: at + 2,
+                    case: Case::Figures,
+                };
             }
-        },
-        Case::Figures => match needed {
-            Case::Letters => {
-                room[to] = signals::LETTERS;
-                to + 1
-            }
-            Case::Figures => to,
-        },
-    }
-}
-
-// Writes a character's signals from `to` on; answers the place past them.
-fn put(room: &mut [u8], to: usize, case: Case, character: Character) -> usize
-    requires { ⌜ to + length (signalsFor case character) ≤ length (now room) ⌝ }
-    ensures { λ r. ⌜ Wrote (now (room .entry)) to (signalsFor case character) r (now (room .exit)) ⌝ }
-{
-    match character {
-        Character::Without => to,
-        Character::Either(word) => {
-            room[to] = word;
-            to + 1
+            Reached { at: at + 1, case }
         }
-        Character::Needing(needed, word) => {
-            let at = put_shift(room, to, case, needed);
-            room[at] = word;
-            at + 1
+        Case::Figures => {
+            if row.2 != byte {
+                return Reached {
+                    at: at + 2,
+                    case: Case::Letters,
+                };
+            }
+            Reached { at: at + 1, case }
         }
     }
 }
 
-// Writes the text's signals at the start of the room; answers how many.
-fn write(text: &[u8], case: Case, room: &mut [u8]) -> usize
-    requires { ⌜ length (encoded case (now text)) ≤ length (now room) ⌝ }
-    ensures { λ r. ⌜ Wrote (now (room .entry)) 0 (encoded case (now (text .entry))) r (now (room .exit)) ⌝ }
+// Writes the shift that a byte needs before its signal, if any (see `past`).
+fn put_shift(room: &mut [u8], from: Reached, byte: u8, row: Row) -> Reached
+    requires { ⌜ HasRow byte row × (from .at + length (shift (from .case) (caseAfter (from .case) (characterOf byte))) ≤ length (now room)) ⌝ }
+    ensures { λ r. ⌜ Wrote (now (room .entry)) (from .at) (shift (from .case) (caseAfter (from .case) (characterOf byte))) (r .at) (now (room .exit)) ⌝ }
+    ensures { λ r. ⌜ r .case ≡ caseAfter (from .case) (characterOf byte) ⌝ }
 {
-    let mut at = 0;
-    let mut in_force = case;
+    let at = from.at;
+    let case = from.case;
+    match case {
+        Case::Letters => {
+            if row.1 == byte {
+                return from;
+            }
+            room[at] = signals::FIGURES;
+            Reached {
+                at: at + 1,
+                case: Case::Figures,
+            }
+        }
+        Case::Figures => {
+            if row.2 == byte {
+                return from;
+            }
+            room[at] = signals::LETTERS;
+            Reached {
+                at: at + 1,
+                case: Case::Letters,
+            }
+        }
+    }
+}
+
+// Writes a byte's signals.
+fn put(room: &mut [u8], from: Reached, byte: u8, row: Row) -> Reached
+    requires { ⌜ HasRow byte row × (from .at + length (signalsFor (from .case) (characterOf byte)) ≤ length (now room)) ⌝ }
+    ensures { λ r. ⌜ Wrote (now (room .entry)) (from .at) (signalsFor (from .case) (characterOf byte)) (r .at) (now (room .exit)) ⌝ }
+    ensures { λ r. ⌜ r .case ≡ caseAfter (from .case) (characterOf byte) ⌝ }
+{
+    let to = put_shift(room, from, byte, row);
+    let at = to.at;
+    room[at] = row.0;
+    let case = to.case;
+    Reached { at: at + 1, case }
+}
+
+// The room that the text's signals need.
+fn room_for(text: &[u8], numbers: &[u8; 256], rows: [Row; 35], case: Case) -> usize
+    requires { ⌜ Numbers (now numbers) × Rows rows × (length (now text) ≤ 4096) × (length (now text) ≤ firstNot hasSignal (now text)) ⌝ }
+    ensures { λ r. ⌜ r ≡ length (encoded case (now (text .entry))) ⌝ }
+{
+    let mut to = Reached { at: 0, case };
     let mut i = 0;
     while i < text.len() {
-        let character = character(text[i]);
-        at = put(room, at, in_force, character);
-        in_force = case_after(in_force, character);
+        let byte = text[i];
+        let row = rows[numbers[byte as usize] as usize - 1];
+        to = past(to, byte, row);
         i += 1;
     }
-    at
+    to.at
+}
+
+// Writes the text's signals at the start of the room.
+fn write(text: &[u8], numbers: &[u8; 256], rows: [Row; 35], case: Case, room: &mut [u8]) -> Reached
+    requires { ⌜ Numbers (now numbers) × Rows rows × (length (now text) ≤ firstNot hasSignal (now text)) × (length (encoded case (now text)) ≤ length (now room)) ⌝ }
+    ensures { λ r. ⌜ Wrote (now (room .entry)) 0 (encoded case (now (text .entry))) (r .at) (now (room .exit)) ⌝ }
+    ensures { λ r. ⌜ r .case ≡ endsEncoded case (now (text .entry)) ⌝ }
+{
+    let mut to = Reached { at: 0, case };
+    let mut i = 0;
+    while i < text.len() {
+        let byte = text[i];
+        let row = rows[numbers[byte as usize] as usize - 1];
+        to = put(room, to, byte, row);
+        i += 1;
+    }
+    to
 }
 
 // Encodes `text`, which starts in `case`, into `room` (01, Text): answers how many signals were written and the case
@@ -430,15 +421,23 @@ pub fn encode(text: &[u8], case: Case, room: &mut [u8]) -> Encoded
     if 4096 < text.len() {
         return Encoded::TooLong;
     }
-    let found = survey(text, case);
-    match found {
-        Surveyed::Bad(i) => Encoded::NoSignal(i),
-        Surveyed::Needs { room: needed, ends } => {
-            if room.len() < needed {
-                return Encoded::NoRoom(needed);
-            }
-            let count = write(text, case, room);
-            Encoded::Written { count, ends }
+    let numbers = numbers();
+    let first = first_without(text, &numbers);
+    if first < text.len() {
+        return Encoded::NoSignal(first);
+    }
+    let rows = rows();
+    // A character takes two signals at most, so only a shorter room has to be measured.
+    if room.len() < 2 * text.len() {
+        let needed = room_for(text, &numbers, rows, case);
+        if room.len() < needed {
+            return Encoded::NoRoom(needed);
         }
+    }
+    let end = write(text, &numbers, rows, case, room);
+    let ends = end.case;
+    Encoded::Written {
+        count: end.at,
+        ends,
     }
 }

@@ -1,90 +1,113 @@
 -- `encoding::encode` meets its contract: at each answer the law of that answer. Assumes nothing.
-use mathlib.Core.Path.{sym, _∙_}
-use lib.ListN.{length}
+use mathlib.Core.Path.{_∙_}
+use mathlib.Core.Logic.{⊎-elim}
+use Prim.Native.Nat.{_≤_}
 use native.Mathlib.Nat.{zero-add}
 use native.Mathlib.Omega.{arith}
+use lib.ListN.{length}
 use Rattle.laws.proofs.Writes.{sets-over}
 use Rattle.signals.specs.Numbers.{firstNot}
 use Rattle.text.specs.Encoding.{hasSignal, encoded, endsEncoded}
 use Rattle.text.proofs.AnswerLaws.{too-long, bad-entry, no-room, all-written}
-use Rattle.text.proofs.EncodingLaws.{encoding-judged}
-use Rattle.text.proofs.WalkLaws.{bad-means, needs-means}
+use Rattle.text.proofs.EncodingLaws.{encoding-judged, encoded-le}
 use borrow.Author.Needs.{needs}
 use Rattle.encoding.proofs.encode.Statement.{statement}
 use Rattle.encoding.proofs.encode.Tie as tie
 use Rattle.encoding.proofs.encode.Reads as reads
 use Rattle.encoding.proofs.encode.Lts as lts
-use Rattle.encoding.proofs.survey.Reads as survey-reads
+use Rattle.encoding.proofs.first_without.Reads as first-without-reads
+use Rattle.encoding.proofs.numbers.Reads as numbers-reads
+use Rattle.encoding.proofs.room_for.Reads as room-for-reads
+use Rattle.encoding.proofs.rows.Reads as rows-reads
 use Rattle.encoding.proofs.write.Reads as write-reads
 
 returns : tie.Need-returns
 returns c =
     let a = c .before .before .before in
-    rw encoding-judged
-    (too-long 4096 5 1 (length (a .args .text .now)) (firstNot hasSignal (a .args .text .now)) (a .args .room .now) (record { bytes = encoded (a .args .case) (a .args .text .now); ends = endsEncoded (a .args .case) (a .args .text .now) }) (c .if1 .taken))
+    let text = a .args .text .now in
+    let case = a .args .case in
+    let room = a .args .room .now in
+    rw encoding-judged (too-long 4096 5 1 (length text) (firstNot hasSignal text) room (record { bytes = encoded case text; ends = endsEncoded case text }) (c .if1 .taken))
 
-survey-requires : tie.Need-survey-requires
-survey-requires c κs = search needs
+numbers-requires : tie.Need-numbers-requires
+numbers-requires c κs = search needs
 
-enum-known-found : tie.Need-enum-known-found
-enum-known-found c = search needs
-
-enum-known-found-2 : tie.Need-enum-known-found-2
-enum-known-found-2 c = search needs
+first-without-requires : tie.Need-first-without-requires
+first-without-requires c κs = search needs
 
 returns-2 : tie.Need-returns-2
 returns-2 c =
-    let a = c .before .before .before .before .before .before .before .before in
-    let k = c .before .before .found2 in
-    let m = needs-means hasSignal encoded endsEncoded (a .args .text .now) (a .args .case) (k .given .0 .0) (k .given .0 .1 .0) (sym (c .before .before .before .before .survey .ensures) ∙ k .given .1) in
+    let a = c .before .before .before .before .before .before .before in
+    let text = a .args .text .now in
+    let case = a .args .case in
+    let room = a .args .room .now in
+    let f = c .before .first-without in
     rw encoding-judged
-    (no-room 4096 5 1 (length (a .args .text .now)) (firstNot hasSignal (a .args .text .now)) (a .args .room .now) (record { bytes = encoded (a .args .case) (a .args .text .now); ends = endsEncoded (a .args .case) (a .args .text .now) }) (c .before .before .before .before .before .if1 .left) (m .2) (k .given .0 .0) (m .0) (c .if2 .taken))
+    (bad-entry 4096 5 1 (length text) (firstNot hasSignal text) room (record { bytes = encoded case text; ends = endsEncoded case text }) (c .before .before .before .before .if1 .left) (f .result) (f .ensures) (omega (arith, f .ensures, c .if2 .taken)))
 
-write-requires : tie.Need-write-requires
-write-requires c κs =
-    let a = c .before .before .before .before .before .before .before .before .before in
-    let k = c .before .before .before .found2 in
-    let m = needs-means hasSignal encoded endsEncoded (a .args .text .now) (a .args .case) (k .given .0 .0) (k .given .0 .1 .0) (sym (c .before .before .before .before .before .survey .ensures) ∙ k .given .1) in
-    omega (arith, m .0, c .before .if2 .left)
+rows-requires : tie.Need-rows-requires
+rows-requires c κs = search needs
+
+mul-if3 : tie.Need-mul-if3
+mul-if3 c = search needs
+
+room-for-requires : tie.Need-room-for-requires
+room-for-requires c κs = search needs
 
 returns-3 : tie.Need-returns-3
 returns-3 c =
-    let a = c .before .before .before .before .before .before .before in
-    let k = c .before .found in
-    let m = bad-means hasSignal encoded endsEncoded (a .args .text .now) (a .args .case) (k .given .0 .0) (sym (c .before .before .before .survey .ensures) ∙ k .given .1) in
+    let a = c .before .before .before .before .before .before .before .before .before .before .before .before in
+    let text = a .args .text .now in
+    let case = a .args .case in
+    let room = a .args .room .now in
+    let f = c .before .before .before .before .before .before .first-without in
+    let n = c .before .room-for in
     rw encoding-judged
-    (bad-entry 4096 5 1 (length (a .args .text .now)) (firstNot hasSignal (a .args .text .now)) (a .args .room .now) (record { bytes = encoded (a .args .case) (a .args .text .now); ends = endsEncoded (a .args .case) (a .args .text .now) }) (c .before .before .before .before .if1 .left) (k .given .0 .0) (m .0) (m .1))
+    (no-room 4096 5 1 (length text) (firstNot hasSignal text) room (record { bytes = encoded case text; ends = endsEncoded case text }) (c .before .before .before .before .before .before .before .before .before .if1 .left) (omega (arith, f .ensures, c .before .before .before .before .before .if2 .left)) (n .result) (n .ensures) (c .if4 .taken))
+
+write-requires : tie.Need-write-requires
+write-requires c κs =
+    let a = c .before .before .before .before .before .before .before .before .before .before .before in
+    let text = a .args .text .now in
+    let case = a .args .case in
+    let room = a .args .room .now in
+    let fits : length (encoded case text) ≤ length room = ⊎-elim (λ w. omega (arith, encoded-le case text)) (λ w. omega (arith, encoded-le case text)) (c .before .before .if3 .came) in
+    (c .before .before .before .before .before .before .before .numbers .ensures, c .before .before .before .rows .ensures, omega (arith, c .before .before .before .before .before .first-without .ensures, c .before .before .before .before .if2 .left), fits)
 
 same-length : tie.Need-same-length
 same-length c = search needs
 
 returns-4 : tie.Need-returns-4
 returns-4 c =
-    let a = c .before .before .before .before .before .before .before .before .before .before .before .before in
-    let k = c .before .before .before .before .before .before .found2 in
-    let m = needs-means hasSignal encoded endsEncoded (a .args .text .now) (a .args .case) (k .given .0 .0) (k .given .0 .1 .0) (sym (c .before .before .before .before .before .before .before .before .survey .ensures) ∙ k .given .1) in
-    let fits = c .before .before .before .before .if2 .left in
+    let a = c .before .before .before .before .before .before .before .before .before .before .before .before .before .before in
+    let text = a .args .text .now in
+    let case = a .args .case in
+    let room = a .args .room .now in
+    let fits : length (encoded case text) ≤ length room = ⊎-elim (λ w. omega (arith, encoded-le case text)) (λ w. omega (arith, encoded-le case text)) (c .before .before .before .before .before .if3 .came) in
+    let f = c .before .before .before .before .before .before .before .before .first-without in
     let w = c .before .before .write in
     rw encoding-judged
-    (all-written 4096 5 1 (length (a .args .text .now)) (firstNot hasSignal (a .args .text .now)) (a .args .room .now) (record { bytes = encoded (a .args .case) (a .args .text .now); ends = endsEncoded (a .args .case) (a .args .text .now) }) (c .before .before .before .before .before .before .before .before .before .if1 .left) (m .2)
-    (w .result)
-    (w .ensures .ended ∙ zero-add _)
-    (omega (arith, w .ensures .ended, m .0))
-    (k .given .0 .1 .0)
-    (m .1)
-    (w .last .1 .1 .0)
-    (w .ensures .holds ∙ sets-over (a .args .room .now) (encoded (a .args .case) (a .args .text .now)) (omega (arith, m .0))))
+    (all-written 4096 5 1 (length text) (firstNot hasSignal text) room (record { bytes = encoded case text; ends = endsEncoded case text }) (c .before .before .before .before .before .before .before .before .before .before .before .if1 .left) (omega (arith, f .ensures, c .before .before .before .before .before .before .before .if2 .left))
+    (w .result .at)
+    (w .ensures .0 .ended ∙ zero-add _)
+    (omega (arith, w .ensures .0 .ended))
+    (w .result .case)
+    (w .ensures .1)
+    (w .last .1 .1 .1 .1 .0)
+    (w .ensures .0 .holds ∙ sets-over room (encoded case text) fits))
 
 pub encode-spec : {M : Type 1} → statement M
 encode-spec =
     tie.close
     (tie.spec
     returns
-    survey-requires
-    enum-known-found
-    enum-known-found-2
+    numbers-requires
+    first-without-requires
     returns-2
-    write-requires
+    rows-requires
+    mul-if3
+    room-for-requires
     returns-3
+    write-requires
     same-length
     returns-4)

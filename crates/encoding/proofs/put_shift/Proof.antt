@@ -2,83 +2,83 @@
 use mathlib.Core.Path.{refl, sym}
 use native.Mathlib.Nat.{add-zero}
 use native.Mathlib.Omega.{arith}
+use Rattle.signals.specs.declared.Case.the-variants.{Letters, Figures}
+use Rattle.encoding.proofs.CharacterLaws.{stands, shifts}
 use borrow.Author.Needs.{needs}
 use Rattle.encoding.proofs.put_shift.Statement.{statement}
 use Rattle.encoding.proofs.put_shift.Tie as tie
+use Rattle.encoding.proofs.put_shift.Reads as reads
+use Rattle.encoding.proofs.put_shift.Lts as lts
 
 enum-told : tie.Need-enum-told
 enum-told c = search needs
 
-enum-told-2 : tie.Need-enum-told-2
-enum-told-2 c = search needs
-
-enum-told-3 : tie.Need-enum-told-3
-enum-told-3 c = search needs
+returns : tie.Need-returns
+returns c =
+    let a = c .before .before .before .before in
+    let s = stands (a .args .byte) (a .fits .byte .fits) (a .args .row) (a .pre .0) Letters (c .if1 .taken) in
+    rw (c .before .before .enum-told .given .1, s .1) (record { ended = sym (add-zero _); holds = refl }, refl)
 
 slice-write-room : tie.Need-slice-write-room
 slice-write-room c =
-    let room = rw (c .before .before .enum-told .given .1, c .enum-told3 .given .1) at (c .before .before .before .before .pre) in
+    let a = c .before .before .before .before in
+    let s = shifts (a .args .byte) (a .fits .byte .fits) (a .args .row) (a .pre .0) Letters (c .if1 .left) in
+    let room = rw (c .before .before .enum-told .given .1, s .1) at (a .pre .1) in
     omega arith
 
-add-result : tie.Need-add-result
-add-result c = search needs
+add-t10 : tie.Need-add-t10
+add-t10 c = search needs
 
-enum-told-4 : tie.Need-enum-told-4
-enum-told-4 c = search needs
+enum-told-2 : tie.Need-enum-told-2
+enum-told-2 c = search needs
 
-enum-told-5 : tie.Need-enum-told-5
-enum-told-5 c = search needs
+returns-2 : tie.Need-returns-2
+returns-2 c =
+    let a = c .before .before .before .before in
+    let s = stands (a .args .byte) (a .fits .byte .fits) (a .args .row) (a .pre .0) Figures (c .if2 .taken) in
+    rw (c .before .before .enum-told2 .given .1, s .1) (record { ended = sym (add-zero _); holds = refl }, refl)
 
 slice-write-room-2 : tie.Need-slice-write-room-2
 slice-write-room-2 c =
-    let room = rw (c .before .before .enum-told4 .given .1, c .enum-told5 .given .1) at (c .before .before .before .before .pre) in
+    let a = c .before .before .before .before in
+    let s = shifts (a .args .byte) (a .fits .byte .fits) (a .args .row) (a .pre .0) Figures (c .if2 .left) in
+    let room = rw (c .before .before .enum-told2 .given .1, s .1) at (a .pre .1) in
     omega arith
 
-add-result-2 : tie.Need-add-result-2
-add-result-2 c = search needs
-
-enum-told-6 : tie.Need-enum-told-6
-enum-told-6 c = search needs
-
-returns : tie.Need-returns
-returns c =
-    rw (c .before .before .enum-told .given .1, c .enum-told2 .given .1)
-    (record { ended = sym (add-zero _); holds = refl })
+add-t14 : tie.Need-add-t14
+add-t14 c = search needs
 
 same-length : tie.Need-same-length
 same-length c = search needs
 
-returns-2 : tie.Need-returns-2
-returns-2 c = rw (c .before .before .enum-told .given .1, c .enum-told3 .given .1) (record { ended = refl; holds = refl })
+returns-3 : tie.Need-returns-3
+returns-3 c =
+    let a = c .before .before .before .before in
+    let s = shifts (a .args .byte) (a .fits .byte .fits) (a .args .row) (a .pre .0) Letters (c .if1 .left) in
+    rw (c .before .before .enum-told .given .1, s .1) (record { ended = refl; holds = refl }, refl)
 
 same-length-2 : tie.Need-same-length-2
 same-length-2 c = search needs
 
-returns-3 : tie.Need-returns-3
-returns-3 c = rw (c .before .before .enum-told4 .given .1, c .enum-told5 .given .1) (record { ended = refl; holds = refl })
-
 returns-4 : tie.Need-returns-4
 returns-4 c =
-    rw (c .before .before .enum-told4 .given .1, c .enum-told6 .given .1)
-    (record { ended = sym (add-zero _); holds = refl })
+    let a = c .before .before .before .before in
+    let s = shifts (a .args .byte) (a .fits .byte .fits) (a .args .row) (a .pre .0) Figures (c .if2 .left) in
+    rw (c .before .before .enum-told2 .given .1, s .1) (record { ended = refl; holds = refl }, refl)
 
 pub put-shift-spec : {M : Type 1} → statement M
 put-shift-spec =
     tie.close
     (tie.spec
     enum-told
-    enum-told-2
-    enum-told-3
-    slice-write-room
-    add-result
-    enum-told-4
-    enum-told-5
-    slice-write-room-2
-    add-result-2
-    enum-told-6
     returns
-    same-length
+    slice-write-room
+    add-t10
+    enum-told-2
     returns-2
-    same-length-2
+    slice-write-room-2
+    add-t14
+    same-length
     returns-3
+    same-length-2
     returns-4)
