@@ -9,7 +9,7 @@ use lib.Dec.{eqb}
 use lib.ListN.{getD}
 use Rattle.laws.specs.Choice.{if_then_else_}
 use Rattle.signals.specs.declared.Row.{Row}
-use Rattle.signals.specs.Rows.{row, rowOf}
+use Rattle.signals.specs.Rows.{rowOf}
 use Rattle.signals.specs.Signals.{Signal, pair, lone, free, mute, signals}
 
 -- counted from n; 0 where no signal has it
@@ -26,10 +26,6 @@ holderOf x = holderIn signals 1 x
 -- the table of characters, in the code's form: at each byte the number of the signal that has it
 abbrev pub Numbers : List ℕ → Type 0
 Numbers l = (x : ℕ) → x < 256 → getD l x 0 ≡ holderOf x
-
--- the table of rows, in the code's form
-abbrev pub Rows : List Row → Type 0
-Rows l = (at : ℕ) → at < 35 → getD l at (row 0 0 0) ≡ rowOf at
 
 -- a signal has the byte x, and r is its row
 pub record HasRow (x : ℕ) (r : Row) : Type 0 where

@@ -4,14 +4,15 @@ ghost use Prim.Native.Nat.{_+_, _≤_};
 ghost use lib.ListN.{length};
 ghost use Rattle.laws.specs.Room.{Wrote};
 ghost use Rattle.signals.specs.Numbers.{firstNot};
+ghost use Rattle.signals.specs.Rows.{Rows};
 ghost use Rattle.text.specs.Encoding.{characterOf, hasSignal, shift, signalsFor, caseAfter, encoded, endsEncoded, Encodes};
-ghost use Rattle.encoding.specs.Holder.{Numbers, Rows, HasRow};
+ghost use Rattle.encoding.specs.Holder.{Numbers, HasRow};
 use signals::Case;
 use signals::Row;
 use text::Encoded;
 
 // How far a text is turned: the place behind the last signal, and the case in force there.
-pub struct Reached {
+struct Reached {
     at: usize,
     case: Case,
 }
@@ -276,17 +277,11 @@ const NUMBER: [u8; 256] = [
     0,
 ];
 
-// The tables. A constant is built anew wherever it is used: `encode` builds each once, before its loops.
+// The table. A constant is built anew wherever it is used: `encode` builds it once, before its loops, and the rows too.
 fn numbers() -> [u8; 256]
     ensures { λ r. ⌜ Numbers r ⌝ }
 {
     NUMBER
-}
-
-fn rows() -> [Row; 35]
-    ensures { λ r. ⌜ Rows r ⌝ }
-{
-    signals::ROWS
 }
 
 // The index of the first byte without a signal; the text's length where each has one.
@@ -426,7 +421,7 @@ pub fn encode(text: &[u8], case: Case, room: &mut [u8]) -> Encoded
     if first < text.len() {
         return Encoded::NoSignal(first);
     }
-    let rows = rows();
+    let rows = signals::rows();
     // A character takes two signals at most, so only a shorter room has to be measured.
     if room.len() < 2 * text.len() {
         let needed = room_for(text, &numbers, rows, case);

@@ -8,6 +8,7 @@ use lib.ListN.{getD, set, replicate}
 use Rattle.laws.proofs.Table.{tabFrom, tab-at, same-table}
 use Rattle.signals.specs.declared.Case.{Case}
 use Rattle.signals.specs.declared.Case.the-variants.{Letters, Figures}
+use Rattle.signals.specs.declared.Row.{Row}
 use Rattle.signals.specs.Rows.{rowOf}
 use Rattle.signals.specs.Meaning.{meaningOf}
 use Rattle.text.specs.Printing.{bytesOf}
@@ -38,9 +39,9 @@ pub fill-starts : (c : Case) → set (replicate 256 0) 255 42 ≡ filled c 0
 unfolding filled
 fill-starts c = refl
 
-pub fill-next : (c : Case) (i : ℕ) (table : List ℕ) → table ≡ filled c i → (g : ℕ) → g ≡ column c (rowOf i) → set table (rowOf i .0) g ≡ filled c (i + 1)
+pub fill-next : (c : Case) (i : ℕ) (table : List ℕ) → table ≡ filled c i → (r : Row) → r ≡ rowOf i → (g : ℕ) → g ≡ column c r → set table (r .0) g ≡ filled c (i + 1)
 unfolding filled
-fill-next c i table e g eg = rw (add-one, e, eg)
+fill-next c i table e r er g eg = rw (add-one, e, eg, er)
 
 full : (c : Case) → filled c 35 ≡ tabFrom (glyphOf c) 256 0
 unfolding filled glyphOf rowOf meaningOf

@@ -86,11 +86,11 @@ module _ (c : Case) (ws : List ℕ) (at : ℕ) (out : List ℕ) (to : ℕ) where
     run-total = ap (λ (l : List ℕ). length l) (g .parted) ∙ length-append (g .put) (printed c (drop i ws))
 
     pub run-ends : length ws ≤ i → Ran c ws at out to (record { at = i; to = next }) mid
-    run-ends h = record { run = g; over = inl (omega (arith, g .within)) }
+    run-ends h = record { run = g; stopped = inl (omega (arith, g .within)) }
 
     module _ (h : i < length ws) where
       pub run-stops : getD ws i 0 ≡ leaving c → Ran c ws at out to (record { at = i; to = next }) mid
-      run-stops e = record { run = g; over = inr (h, e) }
+      run-stops e = record { run = g; stopped = inr (h, e) }
 
       module _ (stay : getD ws i 0 ≡ leaving c → ⊥) where
         rest : printed c (drop i ws) ≡ bytesOf c (getD ws i 0) ++ printed c (drop (i + 1) ws)
@@ -150,7 +150,7 @@ module _ (c : Case) (ws : List ℕ) (at : ℕ) (out : List ℕ) (to : ℕ) where
       ran-before = omega (arith, ran .run .within)
 
       shift : getD ws (r .at) 0 ≡ leaving c
-      shift = ⊎-elim (λ e. absurd (f e)) (λ s. s .1) (ran .over)
+      shift = ⊎-elim (λ e. absurd (f e)) (λ s. s .1) (ran .stopped)
 
       on : printed c (drop (r .at) ws) ≡ printed (other c) (drop (r .at + 1) ws)
       on = all-next printed endsPrinted bytesOf caseAt printed-walk ws (r .at) ran-before c ∙ rw (shift, shift-prints c, shift-hands-on c)

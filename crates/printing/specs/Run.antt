@@ -30,7 +30,7 @@ pub record Going (c : Case) (ws : List ℕ) (at : ℕ) (out : List ℕ) (to i ne
 -- the run is over: no word is left, or the shift to the other case follows
 pub record Ran (c : Case) (ws : List ℕ) (at : ℕ) (out : List ℕ) (to : ℕ) (r : Stop) (after : List ℕ) : Type 0 where
   pub run : Going c ws at out to (r .at) (r .to) after
-  pub over : (r .at ≡ length ws) ⊎ ((r .at < length ws) × (getD ws (r .at) 0 ≡ shiftTo (other c)))
+  pub stopped : (r .at ≡ length ws) ⊎ ((r .at < length ws) × (getD ws (r .at) 0 ≡ shiftTo (other c)))
 
 -- all that the words print in the case c stands in the room from `to` on
 pub record Typed (c : Case) (ws : List ℕ) (out : List ℕ) (to : ℕ) (r : End) (after : List ℕ) : Type 0 where

@@ -123,7 +123,7 @@ fn column_of(case: Case, row: Row) -> u8
 fn glyphs(case: Case) -> [u8; 256]
     ensures { λ r. ⌜ GlyphsOf case r ⌝ }
 {
-    let rows = signals::ROWS;
+    let rows = signals::rows();
     let mut table = [0u8; 256];
     table[ERROR_MARK as usize] = STAR;
     let mut i = 0;

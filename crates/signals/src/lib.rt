@@ -1,10 +1,9 @@
 // The seven-unit code (01, The code; 001, tables 1 and 2): the meaning of a word, whether it is intact, and the 35 rows
 // that the encoder and the printer read.
 ghost use mathlib.Core.Path.{_≡_};
-ghost use Prim.Native.Nat.{_<_};
 ghost use Rattle.signals.specs.Units.{intactOf};
 ghost use Rattle.signals.specs.Meaning.{meaningOf, trafficOf};
-ghost use Rattle.signals.specs.Rows.{rowOf};
+ghost use Rattle.signals.specs.Rows.{Rows};
 
 // The case of a direction, or of a text (01, Text).
 pub enum Case {
@@ -33,9 +32,8 @@ pub const CS3: u8 = 89;
 // A signal's word, and the byte that it prints in letters case and in figures case; 0 where it prints none.
 pub struct Row(pub u8, pub u8, pub u8);
 
-// ORDER: a signal's number less one is its place. The tables are public for the crates that read them in a loop: a constant is
-// built anew wherever it is used, and a loop builds it once.
-pub const ROWS: [Row; 35] = [
+// ORDER: a signal's number less one is its place.
+const ROWS: [Row; 35] = [
     // word letter figure
     Row(071, 65, 45), //  1  A  -
     Row(114, 66, 63), //  2  B  ?
@@ -75,7 +73,7 @@ pub const ROWS: [Row; 35] = [
 ];
 
 // Every byte, from 0, and the number of the signal that it is; 0 where it is mutilated.
-pub const MEANING: [u8; 256] = [
+const MEANING: [u8; 256] = [
     0,
     0,
     0,
@@ -355,10 +353,9 @@ pub fn is_traffic(word: u8) -> bool
     intact(word) & (word != ALPHA) & (word != BETA) & (word != RQ)
 }
 
-// The row of the signal with the number `at` + 1.
-pub fn row_at(at: usize) -> Row
-    requires { ⌜ at < 35 ⌝ }
-    ensures { λ r. ⌜ r ≡ rowOf at ⌝ }
+// The table of rows. A constant is built anew wherever it is used: a caller that reads it in a loop builds it once, before.
+pub fn rows() -> [Row; 35]
+    ensures { λ r. ⌜ Rows r ⌝ }
 {
-    ROWS[at]
+    ROWS
 }

@@ -18,7 +18,7 @@ use Rattle.encoding.proofs.encode.Lts as lts
 use Rattle.encoding.proofs.first_without.Reads as first-without-reads
 use Rattle.encoding.proofs.numbers.Reads as numbers-reads
 use Rattle.encoding.proofs.room_for.Reads as room-for-reads
-use Rattle.encoding.proofs.rows.Reads as rows-reads
+use Rattle.signals.proofs.rows.Reads as rows-reads
 use Rattle.encoding.proofs.write.Reads as write-reads
 
 returns : tie.Need-returns

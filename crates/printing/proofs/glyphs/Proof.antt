@@ -3,7 +3,8 @@ use mathlib.Core.Path.{_≡_}
 use Prim.Native.Nat.{_-_, _≤_}
 use native.Mathlib.Omega.{arith}
 use borrow.Author.Needs.{needs}
-use Rattle.signals.specs.Rows.{rowOf}
+use lib.ListN.{getD}
+use Rattle.signals.specs.Rows.{row}
 use Rattle.printing.proofs.GlyphLaws.{filled, fill-starts, fill-next, all-filled}
 use Rattle.printing.proofs.glyphs.Statement.{statement}
 use Rattle.printing.proofs.glyphs.Tie as tie
@@ -17,6 +18,9 @@ Inv-loop case rows table₀ i₀ table i = (i ≤ 35) × (table ≡ filled case 
 abbrev μ-loop : tie.MeasureT-loop
 μ-loop case rows table₀ i₀ table i = 35 - i
 
+rows-requires : tie.Need-rows-requires Inv-loop μ-loop
+rows-requires c κs = search needs
+
 cast-table : tie.Need-cast-table Inv-loop μ-loop
 cast-table c = search needs
 
@@ -24,7 +28,7 @@ array-write-table : tie.Need-array-write-table Inv-loop μ-loop
 array-write-table c = search needs
 
 loop-holds : tie.Need-loop-holds Inv-loop μ-loop
-loop-holds c = (omega arith, fill-starts (c .args .case))
+loop-holds c = (omega arith, fill-starts (c .before .args .case))
 
 mul-row : tie.Need-mul-row Inv-loop μ-loop
 mul-row c = omega arith
@@ -48,16 +52,16 @@ loop-less : tie.Need-loop-less Inv-loop μ-loop
 loop-less c = omega arith
 
 loop-again : tie.Need-loop-again Inv-loop μ-loop
-unfolding rowOf
 loop-again c =
     let l = c .before .before .before .before .loop in
-    (omega arith, fill-next (c .before .before .before .before .before .args .case) (l .i) (l .table) (l .inv .1) (c .column-of .result) (c .column-of .ensures))
+    let k = c .before .before .before .before .before in
+    (omega arith, fill-next (k .before .args .case) (l .i) (l .table) (l .inv .1) (getD (k .rows .result) (l .i) (row 0 0 0)) (k .rows .ensures (l .i) (c .before .before .before .loop-test .taken)) (c .column-of .result) (c .column-of .ensures))
 
 returns : tie.Need-returns Inv-loop μ-loop
 returns c =
     let l = c .before .loop in
     let e : l .i ≡ 35 = omega (arith, l .inv .0, c .loop-test .left) in
-    rw (l .inv .1, e) (all-filled (c .before .before .args .case))
+    rw (l .inv .1, e) (all-filled (c .before .before .before .args .case))
 
 pub glyphs-spec : {M : Type 1} → statement M
 glyphs-spec =
@@ -65,6 +69,7 @@ glyphs-spec =
     (tie.spec
     Inv-loop
     μ-loop
+    rows-requires
     cast-table
     array-write-table
     loop-holds
