@@ -1,6 +1,5 @@
 -- The look over a list before anything is written, beside the rules: the index of the first entry that may not stand, or
--- the room that the list needs and the case that it ends in. Encoding and printing both take it
--- once the limit is kept.
+-- the room that the list needs and the case that it ends in. Printing takes it once the limit is kept.
 -- Assumes nothing.
 use mathlib.Core.Bool.{Bool}
 use mathlib.Core.List.{List}
