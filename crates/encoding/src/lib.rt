@@ -11,7 +11,7 @@ use signals::Row;
 use text::Encoded;
 
 // How far a text is turned: the place behind the last signal, and the case in force there.
-pub struct Reached {
+struct Reached {
     at: usize,
     case: Case,
 }
