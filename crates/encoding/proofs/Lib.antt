@@ -1,5 +1,7 @@
 -- Laws that the encoder's proofs share.
 --     CharacterLaws   a byte's signals, read off the tables
---     WriteLaws       a text, from one character to the next
+--     JudgeLaws       a text judged, from one byte to the next
+--     WriteLaws       a text turned, from one character to the next
 mod CharacterLaws
+mod JudgeLaws
 mod WriteLaws

@@ -3,9 +3,7 @@
 --     Encoding   characters to signals
 --     Printing   signals to characters
 --     Shifts     where a shift may stand in an encoded text
---     Survey     beside the rules: the look that both calls take before they write
 pub mod Written
 pub mod Encoding
 pub mod Printing
 pub mod Shifts
-pub mod Survey

@@ -32,10 +32,3 @@ pub enum Printed {
     // 2: the room is too short; the room needed.
     NoRoom(usize),
 }
-
-// What a look over a list finds before anything is written: the index of the first entry that may not stand, or the room
-// that the list needs and the case that it ends in.
-pub enum Surveyed {
-    Bad(usize),
-    Needs { room: usize, ends: Case },
-}

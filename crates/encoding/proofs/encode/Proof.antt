@@ -13,13 +13,6 @@ use Rattle.text.proofs.EncodingLaws.{encoding-judged, encoded-le}
 use borrow.Author.Needs.{needs}
 use Rattle.encoding.proofs.encode.Statement.{statement}
 use Rattle.encoding.proofs.encode.Tie as tie
-use Rattle.encoding.proofs.encode.Reads as reads
-use Rattle.encoding.proofs.encode.Lts as lts
-use Rattle.encoding.proofs.first_without.Reads as first-without-reads
-use Rattle.encoding.proofs.numbers.Reads as numbers-reads
-use Rattle.encoding.proofs.room_for.Reads as room-for-reads
-use Rattle.signals.proofs.rows.Reads as rows-reads
-use Rattle.encoding.proofs.write.Reads as write-reads
 
 returns : tie.Need-returns
 returns c =

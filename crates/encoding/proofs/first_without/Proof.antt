@@ -1,68 +1,178 @@
 -- `encoding::first_without` meets its contract: every byte passed has a signal. Assumes nothing.
-use mathlib.Core.Path.{_≡_}
-use Prim.Native.Nat.{_+_, _-_, _<_, _≤_}
+use mathlib.Core.Path.{refl}
+use Prim.Native.Nat.{_+_, _-_}
 use native.Mathlib.Omega.{arith}
-use lib.ListN.{length, getD, drop}
-use Rattle.signals.specs.Numbers.{firstNot}
-use Rattle.signals.proofs.NumberLaws.{first-next, first-here, first-end}
-use Rattle.text.specs.Encoding.{hasSignal}
-use Rattle.encoding.proofs.CharacterLaws.{number-has, number-none}
+use lib.ListN.{length}
+use Rattle.encoding.proofs.JudgeLaws.{Judged, judge-starts, judge-next, judge-stops, judge-ends}
 use Rattle.encoding.proofs.first_without.Statement.{statement}
 use Rattle.encoding.proofs.first_without.Tie as tie
-use Rattle.encoding.proofs.first_without.Reads as reads
-use Rattle.encoding.proofs.first_without.Lts as lts
 
 abbrev Inv-loop : tie.InvT-loop
-Inv-loop text numbers i₀ i = (i ≤ length text) × (i + firstNot hasSignal (drop i text) ≡ firstNot hasSignal text)
+Inv-loop text numbers i₀ i = Judged text i
 
 abbrev μ-loop : tie.MeasureT-loop
 μ-loop text numbers i₀ i = length text - i
 
-loop-holds : tie.Need-loop-holds Inv-loop μ-loop
-loop-holds c = omega arith
+abbrev Inv-loop2 : tie.InvT-loop2
+Inv-loop2 text numbers i₀ i = Judged text i
 
-shared-slice-read-if1 : tie.Need-shared-slice-read-if1 Inv-loop μ-loop
+abbrev μ-loop2 : tie.MeasureT-loop2
+μ-loop2 text numbers i₀ i = length text - i
+
+loop-holds : tie.Need-loop-holds Inv-loop μ-loop Inv-loop2 μ-loop2
+loop-holds c = judge-starts (c .args .text .now)
+
+add-loop : tie.Need-add-loop Inv-loop μ-loop Inv-loop2 μ-loop2
+add-loop c = omega (arith, c .before .pre .1, c .loop .inv .within)
+
+shared-slice-read-if1 : tie.Need-shared-slice-read-if1 Inv-loop μ-loop Inv-loop2 μ-loop2
 shared-slice-read-if1 c = omega arith
 
-cast-if1 : tie.Need-cast-if1 Inv-loop μ-loop
+cast-if1 : tie.Need-cast-if1 Inv-loop μ-loop Inv-loop2 μ-loop2
 cast-if1 c = omega (arith, c .shared-slice-known .given (c .before .before .loop .i))
 
-element-copy-out-if1 : tie.Need-element-copy-out-if1 Inv-loop μ-loop
+element-copy-out-if1 : tie.Need-element-copy-out-if1 Inv-loop μ-loop Inv-loop2 μ-loop2
 element-copy-out-if1 c = omega (arith, c .shared-slice-known .given (c .before .before .loop .i))
 
-returns : tie.Need-returns Inv-loop μ-loop
+returns : tie.Need-returns Inv-loop μ-loop Inv-loop2 μ-loop2
 returns c =
     let a = c .before .before .before .before .before in
-    let text = a .args .text .now in
     let l = c .before .before .before .before .loop in
-    let x = getD text (l .i) 0 in
-    let byte : x < 256 = omega (arith, c .before .before .shared-slice-known .given (l .i)) in
-    let none = number-none x byte _ (a .pre x byte) (c .if1 .taken) in
-    omega (arith, l .inv .1, first-here hasSignal text (l .i) (c .before .before .before .loop-test .taken) none)
+    let text = a .args .text .now in
+    let numbers = a .args .numbers .now in
+    let known = c .before .before .shared-slice-known .given in
+    judge-stops text (l .i) (l .inv) numbers (a .pre .0) (omega (arith, known (l .i))) (omega arith) (c .if1 .taken)
 
-add-i : tie.Need-add-i Inv-loop μ-loop
+add-if2 : tie.Need-add-if2 Inv-loop μ-loop Inv-loop2 μ-loop2
+add-if2 c = omega arith
+
+shared-slice-read-if2 : tie.Need-shared-slice-read-if2 Inv-loop μ-loop Inv-loop2 μ-loop2
+shared-slice-read-if2 c = omega arith
+
+cast-if2 : tie.Need-cast-if2 Inv-loop μ-loop Inv-loop2 μ-loop2
+cast-if2 c = omega (arith, c .shared-slice-known2 .given (c .before .before .before .before .before .loop .i + 1))
+
+element-copy-out-if2 : tie.Need-element-copy-out-if2 Inv-loop μ-loop Inv-loop2 μ-loop2
+element-copy-out-if2 c = omega (arith, c .shared-slice-known2 .given (c .before .before .before .before .before .loop .i + 1))
+
+add-result : tie.Need-add-result Inv-loop μ-loop Inv-loop2 μ-loop2
+add-result c = omega arith
+
+returns-2 : tie.Need-returns-2 Inv-loop μ-loop Inv-loop2 μ-loop2
+returns-2 c =
+    let a = c .before .before .before .before .before .before .before .before in
+    let l = c .before .before .before .before .before .before .before .loop in
+    let text = a .args .text .now in
+    let numbers = a .args .numbers .now in
+    let known = c .before .before .shared-slice-known2 .given in
+    let g1 = judge-next text (l .i) (l .inv) numbers (a .pre .0) (omega (arith, known (l .i))) (omega arith) (c .before .before .before .if1 .left) (l .i + 1) refl in
+    judge-stops text (l .i + 1) g1 numbers (a .pre .0) (omega (arith, known (l .i + 1))) (omega arith) (c .if2 .taken)
+
+add-if3 : tie.Need-add-if3 Inv-loop μ-loop Inv-loop2 μ-loop2
+add-if3 c = omega arith
+
+shared-slice-read-if3 : tie.Need-shared-slice-read-if3 Inv-loop μ-loop Inv-loop2 μ-loop2
+shared-slice-read-if3 c = omega arith
+
+cast-if3 : tie.Need-cast-if3 Inv-loop μ-loop Inv-loop2 μ-loop2
+cast-if3 c = omega (arith, c .shared-slice-known3 .given (c .before .before .before .before .before .before .before .before .loop .i + 2))
+
+element-copy-out-if3 : tie.Need-element-copy-out-if3 Inv-loop μ-loop Inv-loop2 μ-loop2
+element-copy-out-if3 c = omega (arith, c .shared-slice-known3 .given (c .before .before .before .before .before .before .before .before .loop .i + 2))
+
+add-result-2 : tie.Need-add-result-2 Inv-loop μ-loop Inv-loop2 μ-loop2
+add-result-2 c = omega arith
+
+returns-3 : tie.Need-returns-3 Inv-loop μ-loop Inv-loop2 μ-loop2
+returns-3 c =
+    let a = c .before .before .before .before .before .before .before .before .before .before .before in
+    let l = c .before .before .before .before .before .before .before .before .before .before .loop in
+    let text = a .args .text .now in
+    let numbers = a .args .numbers .now in
+    let known = c .before .before .shared-slice-known3 .given in
+    let g1 = judge-next text (l .i) (l .inv) numbers (a .pre .0) (omega (arith, known (l .i))) (omega arith) (c .before .before .before .before .before .before .if1 .left) (l .i + 1) refl in
+    let g2 = judge-next text (l .i + 1) g1 numbers (a .pre .0) (omega (arith, known (l .i + 1))) (omega arith) (c .before .before .before .if2 .left) (l .i + 2) (omega arith) in
+    judge-stops text (l .i + 2) g2 numbers (a .pre .0) (omega (arith, known (l .i + 2))) (omega arith) (c .if3 .taken)
+
+add-if4 : tie.Need-add-if4 Inv-loop μ-loop Inv-loop2 μ-loop2
+add-if4 c = omega arith
+
+shared-slice-read-if4 : tie.Need-shared-slice-read-if4 Inv-loop μ-loop Inv-loop2 μ-loop2
+shared-slice-read-if4 c = omega arith
+
+cast-if4 : tie.Need-cast-if4 Inv-loop μ-loop Inv-loop2 μ-loop2
+cast-if4 c = omega (arith, c .shared-slice-known4 .given (c .before .before .before .before .before .before .before .before .before .before .before .loop .i + 3))
+
+element-copy-out-if4 : tie.Need-element-copy-out-if4 Inv-loop μ-loop Inv-loop2 μ-loop2
+element-copy-out-if4 c = omega (arith, c .shared-slice-known4 .given (c .before .before .before .before .before .before .before .before .before .before .before .loop .i + 3))
+
+add-result-3 : tie.Need-add-result-3 Inv-loop μ-loop Inv-loop2 μ-loop2
+add-result-3 c = omega arith
+
+returns-4 : tie.Need-returns-4 Inv-loop μ-loop Inv-loop2 μ-loop2
+returns-4 c =
+    let a = c .before .before .before .before .before .before .before .before .before .before .before .before .before .before in
+    let l = c .before .before .before .before .before .before .before .before .before .before .before .before .before .loop in
+    let text = a .args .text .now in
+    let numbers = a .args .numbers .now in
+    let known = c .before .before .shared-slice-known4 .given in
+    let g1 = judge-next text (l .i) (l .inv) numbers (a .pre .0) (omega (arith, known (l .i))) (omega arith) (c .before .before .before .before .before .before .before .before .before .if1 .left) (l .i + 1) refl in
+    let g2 = judge-next text (l .i + 1) g1 numbers (a .pre .0) (omega (arith, known (l .i + 1))) (omega arith) (c .before .before .before .before .before .before .if2 .left) (l .i + 2) (omega arith) in
+    let g3 = judge-next text (l .i + 2) g2 numbers (a .pre .0) (omega (arith, known (l .i + 2))) (omega arith) (c .before .before .before .if3 .left) (l .i + 3) (omega arith) in
+    judge-stops text (l .i + 3) g3 numbers (a .pre .0) (omega (arith, known (l .i + 3))) (omega arith) (c .if4 .taken)
+
+add-i : tie.Need-add-i Inv-loop μ-loop Inv-loop2 μ-loop2
 add-i c = omega arith
 
-loop-less : tie.Need-loop-less Inv-loop μ-loop
+loop-less : tie.Need-loop-less Inv-loop μ-loop Inv-loop2 μ-loop2
 loop-less c = omega arith
 
-loop-again : tie.Need-loop-again Inv-loop μ-loop
+loop-again : tie.Need-loop-again Inv-loop μ-loop Inv-loop2 μ-loop2
 loop-again c =
-    let a = c .before .before .before .before .before in
+    let a = c .before .before .before .before .before .before .before .before .before .before .before .before .before .before in
+    let l = c .before .before .before .before .before .before .before .before .before .before .before .before .before .loop in
     let text = a .args .text .now in
-    let l = c .before .before .before .before .loop in
-    let x = getD text (l .i) 0 in
-    let byte : x < 256 = omega (arith, c .before .before .shared-slice-known .given (l .i)) in
-    let has = number-has x byte _ (a .pre x byte) (c .if1 .left) in
-    (omega arith, omega (arith, l .inv .1, first-next hasSignal text (l .i) (c .before .before .before .loop-test .taken) has))
+    let numbers = a .args .numbers .now in
+    let known = c .before .before .shared-slice-known4 .given in
+    let g1 = judge-next text (l .i) (l .inv) numbers (a .pre .0) (omega (arith, known (l .i))) (omega arith) (c .before .before .before .before .before .before .before .before .before .if1 .left) (l .i + 1) refl in
+    let g2 = judge-next text (l .i + 1) g1 numbers (a .pre .0) (omega (arith, known (l .i + 1))) (omega arith) (c .before .before .before .before .before .before .if2 .left) (l .i + 2) (omega arith) in
+    let g3 = judge-next text (l .i + 2) g2 numbers (a .pre .0) (omega (arith, known (l .i + 2))) (omega arith) (c .before .before .before .if3 .left) (l .i + 3) (omega arith) in
+    judge-next text (l .i + 3) g3 numbers (a .pre .0) (omega (arith, known (l .i + 3))) (omega arith) (c .if4 .left) (l .i + 4) (omega arith)
 
-returns-2 : tie.Need-returns-2 Inv-loop μ-loop
-returns-2 c =
-    let text = c .before .before .args .text .now in
-    let l = c .before .loop in
-    let e : l .i ≡ length text = omega arith in
-    let last : firstNot hasSignal (drop (l .i) text) ≡ 0 = rw e (first-end hasSignal text) in
-    omega (arith, l .inv .1)
+loop2-holds : tie.Need-loop2-holds Inv-loop μ-loop Inv-loop2 μ-loop2
+loop2-holds c = c .before .loop .inv
+
+shared-slice-read-if5 : tie.Need-shared-slice-read-if5 Inv-loop μ-loop Inv-loop2 μ-loop2
+shared-slice-read-if5 c = omega arith
+
+cast-if5 : tie.Need-cast-if5 Inv-loop μ-loop Inv-loop2 μ-loop2
+cast-if5 c = omega (arith, c .shared-slice-known5 .given (c .before .before .loop2 .i))
+
+element-copy-out-if5 : tie.Need-element-copy-out-if5 Inv-loop μ-loop Inv-loop2 μ-loop2
+element-copy-out-if5 c = omega (arith, c .shared-slice-known5 .given (c .before .before .loop2 .i))
+
+returns-5 : tie.Need-returns-5 Inv-loop μ-loop Inv-loop2 μ-loop2
+returns-5 c =
+    let a = c .before .before .before .before .before .before .before in
+    let l = c .before .before .before .before .loop2 in
+    let known = c .before .before .shared-slice-known5 .given in
+    judge-stops (a .args .text .now) (l .i) (l .inv) (a .args .numbers .now) (a .pre .0) (omega (arith, known (l .i))) (c .before .before .before .loop2-test .taken) (c .if5 .taken)
+
+add-i-2 : tie.Need-add-i-2 Inv-loop μ-loop Inv-loop2 μ-loop2
+add-i-2 c = omega arith
+
+loop2-less : tie.Need-loop2-less Inv-loop μ-loop Inv-loop2 μ-loop2
+loop2-less c = omega arith
+
+loop2-again : tie.Need-loop2-again Inv-loop μ-loop Inv-loop2 μ-loop2
+loop2-again c =
+    let a = c .before .before .before .before .before .before .before in
+    let l = c .before .before .before .before .loop2 in
+    let known = c .before .before .shared-slice-known5 .given in
+    judge-next (a .args .text .now) (l .i) (l .inv) (a .args .numbers .now) (a .pre .0) (omega (arith, known (l .i))) (c .before .before .before .loop2-test .taken) (c .if5 .left) (l .i + 1) refl
+
+returns-6 : tie.Need-returns-6 Inv-loop μ-loop Inv-loop2 μ-loop2
+returns-6 c = judge-ends (c .before .before .before .before .args .text .now) (c .before .loop2 .i) (c .before .loop2 .inv) (c .loop2-test .left)
 
 pub first-without-spec : {M : Type 1} → statement M
 first-without-spec =
@@ -70,12 +180,41 @@ first-without-spec =
     (tie.spec
     Inv-loop
     μ-loop
+    Inv-loop2
+    μ-loop2
     loop-holds
+    add-loop
     shared-slice-read-if1
     cast-if1
     element-copy-out-if1
     returns
+    add-if2
+    shared-slice-read-if2
+    cast-if2
+    element-copy-out-if2
+    add-result
+    returns-2
+    add-if3
+    shared-slice-read-if3
+    cast-if3
+    element-copy-out-if3
+    add-result-2
+    returns-3
+    add-if4
+    shared-slice-read-if4
+    cast-if4
+    element-copy-out-if4
+    add-result-3
+    returns-4
     add-i
     loop-less
     loop-again
-    returns-2)
+    loop2-holds
+    shared-slice-read-if5
+    cast-if5
+    element-copy-out-if5
+    returns-5
+    add-i-2
+    loop2-less
+    loop2-again
+    returns-6)

@@ -5,8 +5,6 @@ use Rattle.signals.specs.declared.Case.the-variants.{Letters, Figures}
 use Rattle.encoding.proofs.CharacterLaws.{stands, shifts}
 use Rattle.encoding.proofs.past.Statement.{statement}
 use Rattle.encoding.proofs.past.Tie as tie
-use Rattle.encoding.proofs.past.Reads as reads
-use Rattle.encoding.proofs.past.Lts as lts
 
 enum-told : tie.Need-enum-told
 enum-told c = search needs

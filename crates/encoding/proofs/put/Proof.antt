@@ -9,9 +9,6 @@ use Rattle.encoding.proofs.CharacterLaws.{shift-then}
 use borrow.Author.Needs.{needs}
 use Rattle.encoding.proofs.put.Statement.{statement}
 use Rattle.encoding.proofs.put.Tie as tie
-use Rattle.encoding.proofs.put.Reads as reads
-use Rattle.encoding.proofs.put.Lts as lts
-use Rattle.encoding.proofs.put_shift.Reads as put-shift-reads
 
 put-shift-requires : tie.Need-put-shift-requires
 put-shift-requires c κs =

@@ -7,8 +7,6 @@ use Rattle.encoding.proofs.CharacterLaws.{stands, shifts}
 use borrow.Author.Needs.{needs}
 use Rattle.encoding.proofs.put_shift.Statement.{statement}
 use Rattle.encoding.proofs.put_shift.Tie as tie
-use Rattle.encoding.proofs.put_shift.Reads as reads
-use Rattle.encoding.proofs.put_shift.Lts as lts
 
 enum-told : tie.Need-enum-told
 enum-told c = search needs

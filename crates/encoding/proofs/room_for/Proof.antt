@@ -6,9 +6,6 @@ use Rattle.encoding.proofs.CharacterLaws.{number-le, number-pos, place-
 use Rattle.encoding.proofs.WriteLaws.{Turning, turn-starts, turn-small, turn-next, turn-count, has-at}
 use Rattle.encoding.proofs.room_for.Statement.{statement}
 use Rattle.encoding.proofs.room_for.Tie as tie
-use Rattle.encoding.proofs.room_for.Reads as reads
-use Rattle.encoding.proofs.room_for.Lts as lts
-use Rattle.encoding.proofs.past.Reads as past-reads
 
 abbrev Inv-loop : tie.InvT-loop
 Inv-loop text numbers rows to₀ i₀ to i = Turning text (to₀ .case) (to .at) (to .case) i

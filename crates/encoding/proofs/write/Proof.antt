@@ -7,9 +7,6 @@ use Rattle.encoding.proofs.CharacterLaws.{number-le, number-pos, place-
 use Rattle.encoding.proofs.WriteLaws.{Writing, write-starts, write-next, write-ends, turn-room, turn-end, has-at}
 use Rattle.encoding.proofs.write.Statement.{statement}
 use Rattle.encoding.proofs.write.Tie as tie
-use Rattle.encoding.proofs.write.Reads as reads
-use Rattle.encoding.proofs.write.Lts as lts
-use Rattle.encoding.proofs.put.Reads as put-reads
 
 abbrev Inv-loop : tie.InvT-loop
 Inv-loop text numbers room₀ rows to₀ i₀ room to i = Writing text (to₀ .case) room₀ room (to .at) (to .case) i
