@@ -1,8 +1,8 @@
 -- 01, The station: "Repetition count: steps in a row, at Sending, Turning, Opening, Receiving or Asking, in which the station
 -- neither changes place, nor confirms, nor accepts."  R-096
 --
--- Whether a step is such a repetition is told from what was heard and from the place before it and the place that it leads to. The
--- count that the station keeps is looked at nowhere here.
+-- Whether a step is such a repetition is told from what was heard and from the place before it and the place that it leads to, and
+-- does not depend on the count that the station keeps.
 -- Assumes nothing.
 use mathlib.Core.Bool.{Bool, true, false, not, _&&_}
 use mathlib.Core.List.{List, [], _∷_}

@@ -11,7 +11,7 @@ use signals::Case;
 use signals::Row;
 use text::Encoded;
 
-// How far a text is turned: the place behind the last signal, and the case in force there.
+// How far a text is encoded: the place behind the last signal, and the case in force there.
 struct Reached {
     at: usize,
     case: Case,

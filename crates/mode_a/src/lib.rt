@@ -181,7 +181,7 @@ impl Station {
         }
     }
 
-    // "A fresh slave is Receiving, awaits 1, and its first burst is CS1": the caller sends `Number::One.asks()` before the first step.
+    // "A fresh slave is Receiving, awaits 1, and its first burst is CS1": the caller sends it, CS1 0 0, before the first step.
     pub fn fresh_slave() -> Self
         ensures { λ r. ⌜ r ≡ freshSlave ⌝ }
     {

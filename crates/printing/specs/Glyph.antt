@@ -1,4 +1,4 @@
--- The byte that a word prints in a case, read off the code's tables: its number, then that signal's row; 0 for no byte.
+-- The byte that a word prints in a case, by its number and that signal's row; 0 for no byte.
 -- Assumes nothing.
 use mathlib.Core.Path.{_≡_}
 use mathlib.Core.List.{List, [], _∷_}

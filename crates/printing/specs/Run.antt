@@ -17,8 +17,8 @@ use Rattle.printing.specs.declared.End.{End}
 abbrev pub sizeOf : ℕ → ℕ
 sizeOf w = if eqb w 90 then 0 else if eqb w 54 then 0 else if eqb w 106 then 0 else 1
 
--- the words from `at` to `i` are printed, in the case c all of them: `put` stands in the room from `to` to `next`, and the
--- rest of the list prints the rest
+-- the words from `at` to `i` are printed, and the case is c again behind them: `put` stands in the room from `to` to `next`, and the
+-- rest of the list prints the rest and ends as the whole does
 pub record Going (c : Case) (ws : List ℕ) (at : ℕ) (out : List ℕ) (to i next : ℕ) (mid : List ℕ) : Type 0 where
   pub from : at ≤ i
   pub within : i ≤ length ws
@@ -32,7 +32,7 @@ pub record Ran (c : Case) (ws : List ℕ) (at : ℕ) (out : List ℕ) (to : ℕ)
   pub run : Going c ws at out to (r .at) (r .to) after
   pub stopped : (r .at ≡ length ws) ⊎ ((r .at < length ws) × (getD ws (r .at) 0 ≡ shiftTo (other c)))
 
--- all that the words print in the case c stands in the room from `to` on
+-- all that the words print from the case c stands in the room from `to` on, and the case at the end is told
 pub record Typed (c : Case) (ws : List ℕ) (out : List ℕ) (to : ℕ) (r : End) (after : List ℕ) : Type 0 where
   pub wrote : Wrote out to (printed c ws) (r .to) after
   pub ends : r .ends ≡ endsPrinted c ws

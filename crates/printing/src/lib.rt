@@ -42,7 +42,8 @@ fn may_print(word: u8) -> bool
     signals::is_traffic(word) | (word == ERROR_MARK)
 }
 
-// Whether every word may stand. It looks at all of them, one like the other, so that the compiler can take sixteen at a time.
+// True only where every word may stand. It looks at all of them, one like the other, so that the compiler can take sixteen at a
+// time.
 fn all_may(words: &[u8]) -> bool
     ensures { λ r. ⌜ (r ≡ true → firstNot mayPrint (now (words .entry)) ≡ length (now (words .entry))) ⌝ }
 {

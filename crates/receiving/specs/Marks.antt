@@ -32,6 +32,7 @@ aloneMark dx = markOf (settledAlone dx)
 abbrev pub printingMark : Bool → ℕ → Bool
 printingMark printing m = printing || (eqb m carriageReturn || eqb m lineFeed)
 
+-- of a mark, which is 0, 255 or an intact word: all but the three service signals are traffic
 abbrev pub printedMark : Bool → ℕ → ℕ
 printedMark printing m =
     if printingMark printing m then (if eqb m alpha || (eqb m beta || eqb m rq) then 0 else m) else 0

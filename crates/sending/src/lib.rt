@@ -16,7 +16,7 @@ pub enum At {
     Idle,
 }
 
-// Whether every word is traffic. It looks at all of them, one like the other, so that the compiler can take sixteen at a time.
+// True only where every word is traffic. It looks at all of them, one like the other, so that the compiler can take sixteen at a time.
 fn all_traffic(text: &[u8]) -> bool
     ensures { λ r. ⌜ (r ≡ true → firstNot trafficOf (now (text .entry)) ≡ length (now (text .entry))) ⌝ }
 {
