@@ -25,7 +25,7 @@ use Rattle.mode_a.specs.Station.{listOf}
 use Rattle.mode_a.specs.Heard.{First, Cs, Cs3, Rq, Else, firstOf, mayHold, isBlock, heardOf}
 use Rattle.mode_a.specs.Rows.{rowOf}
 use Rattle.mode_a.specs.Step.{done, sound, offered, stepping}
-use Rattle.circuit.specs.Circuit.{Event, heard, Harmless, Run, start, _▷_, traffic, signalsIn, Direction, Circuit, fresh, said, confirmedBy, acceptedBy, answeredBy, goesOn, next, after, AllHarmless}
+use Rattle.circuit.specs.Circuit.{Event, heard, Harmless, Run, start, _▷_, traffic, signalsIn, isSending, Direction, Circuit, fresh, said, confirmedBy, acceptedBy, answeredBy, goesOn, next, after, AllHarmless}
 use Rattle.circuit.specs.Demand.{InOrder, Carried, inHand, Kept}
 use Rattle.circuit.proofs.DamageLaws.{never, Mangled, mangled, mangled-silence, FirstIs, first-heard}
 use Rattle.circuit.proofs.Link.{Owed, none, unheard, heard as accepted, Link, s1-block, s1-rqs, s1-own, s1-rqs′, s1-other, s2-rqs, s2-cs3, s3-any, s3-cs3, s4-rq, s4-rqs, s5-asks, s5-rq, e1-alphas, e1-any, e2-any, e2-any′, e3-silence, e3-any, e4-any, Told, waiting, ahead, At, here, gone, Says, aloud, no-more, Linked, Moved, stays, takes-block, confirms, confirms-and-takes, Came, nothing-new, came, After}
@@ -270,16 +270,6 @@ sender-keeps c l = kept-by (l .owed-sender) (l .sender-at) (c .sender .place) (c
     go (no-more e j) n = absurd (n e)
 
 -- no phase has both at Sending
-abbrev isSending : Place → Bool
-isSending (Sending h) = true
-isSending (Turning n) = false
-isSending Opening = false
-isSending (Ending e) = false
-isSending (Receiving n) = false
-isSending Asking = false
-isSending StandBy = false
-isSending Lost = false
-
 not-both : {x p : Place} {w : Words} {ox op : Owed} → Link x p w ox op → isSending x && isSending p ≡ false
 not-both (s1-block i) = refl
 not-both (s1-rqs i) = refl

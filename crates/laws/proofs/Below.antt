@@ -13,10 +13,6 @@ pub both-right : (a b : Bool) → T (a && b) → T b
 both-right true b t = t
 both-right false b t = absurd t
 
-pub both-hold : (a b : Bool) → T a → T b → T (a && b)
-both-hold true b s t = t
-both-hold false b s t = s
-
 -- the test passes at i, i + 1, .., n of them
 abbrev pub every : (ℕ → Bool) → ℕ → ℕ → Bool
 every f zero i = true

@@ -13,12 +13,12 @@ use Rattle.text.specs.Shifts.{shiftTo, other}
 use Rattle.printing.specs.declared.Stop.{Stop}
 use Rattle.printing.specs.declared.End.{End}
 
--- how many bytes a word that may be printed prints, in either case: none for the shifts and blank
+-- how many bytes a word that may be printed prints, in either case: none for the shifts (90, 54) and blank (106)
 abbrev pub sizeOf : ℕ → ℕ
 sizeOf w = if eqb w 90 then 0 else if eqb w 54 then 0 else if eqb w 106 then 0 else 1
 
--- the words from `at` to `i` are printed, and the case is c again behind them: `put` stands in the room from `to` to `next`, and the
--- rest of the list prints the rest and ends as the whole does
+-- the words from `at` to `i` are printed: `put` stands in the room from `to` to `next`, and the rest of the list, from the case c
+-- again, prints the rest and ends as the whole does
 pub record Going (c : Case) (ws : List ℕ) (at : ℕ) (out : List ℕ) (to i next : ℕ) (mid : List ℕ) : Type 0 where
   pub from : at ≤ i
   pub within : i ≤ length ws
