@@ -1,4 +1,10 @@
-// One public call a record, so that rooms, cases and lengths can be tried that no filter reaches (docs/FORMATS.md).
+// One public call a record, so that rooms, cases, lengths and receivers can be tried that no filter reaches (docs/FORMATS.md).
+use mode_b::Heard;
+use mode_b::Hearing;
+use mode_b::Phase;
+use mode_b::Phasing;
+use mode_b::Received;
+use mode_b::Receiver;
 use mode_b::Slot;
 use signals::Case;
 use text::Encoded;
@@ -201,6 +207,123 @@ fn with_slot(list: &mut [u8]) -> Ended {
     answer_slot(&mut list[..length], number)
 }
 
+// A space and the number.
+fn write_number(number: u8) {
+    io::write_all(1, b" ");
+    io::print_decimal(1, number as u64);
+}
+
+fn write_flag(flag: bool) {
+    if flag {
+        write_number(1);
+        return;
+    }
+    write_number(0);
+}
+
+// The rest of a record of kind M: the byte.
+fn with_byte() -> Ended {
+    let mut byte = [0u8; 1];
+    let got = io::read_full(0, &mut byte);
+    if got != 1 {
+        return Ended::Bad;
+    }
+    io::print_decimal(1, signals::meaning(byte[0]) as u64);
+    write_flag(signals::intact(byte[0]));
+    io::write_all(1, b"\n");
+    Ended::Answered(2)
+}
+
+fn phasing_of(byte: u8) -> Phasing {
+    if byte % 2 == 0 {
+        return Phasing::One;
+    }
+    Phasing::Two
+}
+
+// The receiver of a record of kind R. The kind is read already: byte 1 stands at 0.
+fn receiver_of(record: &[u8; 10]) -> Receiver {
+    if record[0] % 2 == 0 {
+        return Receiver {
+            hearing: Hearing::Searching(record[1], phasing_of(record[2])),
+        };
+    }
+    Receiver {
+        hearing: Hearing::InPhase(Phase {
+            first: record[3],
+            second: record[4],
+            third: record[5],
+            dx: record[6] % 2 == 0,
+            printing: record[7] % 2 == 1,
+        }),
+    }
+}
+
+// The run, and its last signal: a run of 0 has none.
+fn write_searching(run: u8, last: Phasing) {
+    io::write_all(1, b"searching");
+    write_number(run);
+    if run == 0 {
+        io::write_all(1, b" none");
+        return;
+    }
+    match last {
+        Phasing::One => {
+            io::write_all(1, b" alpha");
+        }
+        Phasing::Two => {
+            io::write_all(1, b" RQ");
+        }
+    }
+}
+
+fn write_numbers(first: u8, second: u8, third: u8) {
+    write_number(first);
+    write_number(second);
+    write_number(third);
+}
+
+// The DX words, the next slot, whether printing has begun, and a wait of 0. Where a DX slot comes next, the oldest word is settled.
+fn write_phase(p: Phase) {
+    io::write_all(1, b"phase");
+    if p.dx {
+        write_numbers(0, p.second, p.third);
+        io::write_all(1, b" dx");
+    } else {
+        write_numbers(p.first, p.second, p.third);
+        io::write_all(1, b" rx");
+    }
+    write_flag(p.printing);
+    write_number(0);
+}
+
+fn write_heard(heard: Heard) {
+    let receiver = heard.receiver;
+    let hearing = receiver.hearing;
+    match hearing {
+        Hearing::Searching(run, last) => write_searching(run, last),
+        Hearing::InPhase(p) => write_phase(p),
+    }
+    io::write_all(1, b" |");
+    write_number(heard.printed);
+}
+
+// The rest of a record of kind R: the receiver, and the word that it hears.
+fn with_receiver() -> Ended {
+    let mut record = [0u8; 10];
+    let got = io::read_full(0, &mut record);
+    if got != 10 {
+        return Ended::Bad;
+    }
+    let received = receiving::receive(receiver_of(&record), record[9]);
+    match received {
+        Received::Done(heard) => write_heard(heard),
+        Received::BadReceiver(_) => filters::write_refusal(1, 4, 0),
+    }
+    io::write_all(1, b"\n");
+    Ended::Answered(11)
+}
+
 fn record(list: &mut [u8], room: &mut [u8]) -> Ended {
     let mut kind = [0u8; 1];
     let got = io::read_full(0, &mut kind);
@@ -215,6 +338,12 @@ fn record(list: &mut [u8], room: &mut [u8]) -> Ended {
     }
     if kind[0] == b'S' {
         return with_slot(list);
+    }
+    if kind[0] == b'M' {
+        return with_byte();
+    }
+    if kind[0] == b'R' {
+        return with_receiver();
     }
     Ended::Bad
 }
