@@ -29,10 +29,11 @@ use Rattle.mode_a.specs.Heard.{First, Cs, Cs3, Else, firstOf, mayHold, isBlock,
 use Rattle.mode_a.specs.Step.{movedTo, sends, repeats, done}
 use Rattle.signals.specs.Damage.{arrives}
 use Rattle.circuit.specs.Circuit.{Event, heard, Harmless, Whole, Circuit, said, confirmedAt, confirmedOf, confirmedBy, acceptedBy, answeredBy, goesOn, isAnswered, next}
-use Rattle.circuit.specs.Demand.{Beginning, Exchanged, Confirms, TimedOutFirst, AwaitsAtRq}
+use Rattle.circuit.specs.Demand.{Beginning, Exchanged, Confirms, TimedOutFirst, InTime, AwaitsAtRq}
 use Rattle.circuit.proofs.DamageLaws.{never}
 use Rattle.circuit.proofs.Link.{Owed, unheard, heard as accepted, held, Link, s1-block, s1-rqs, s1-own, s1-rqs′, s1-other, s2-rqs, s2-cs3, s3-any, s3-cs3, s4-rq, s4-rqs, s5-asks, s5-rq, e1-alphas, e1-any, e2-any, e2-any′, e3-silence, e3-any, e4-any, Told, At, here, gone, Says, aloud, no-more, Linked}
 use Rattle.circuit.proofs.StepLaws.{asks-first, same-self, same-other}
+use Rattle.circuit.proofs.TimeLaws.{in-time, Follows, took, turns, follows-in-time, goes-on}
 use Rattle.circuit.proofs.RunLaws.{Answers, answers, still-at, place-here, not-lost, linked-next}
 
 -- undamaged, it is heard as it was sent; and that is harmless
@@ -83,8 +84,8 @@ repeated s v r e = rw e (go (leb 31 (s .count)))
 -- what a station at Sending hears whole, from where, and what is then owed
 data Hears (h : Held) : Place → First → Owed → Type 0 where
   own : isBlock (h .block) ≡ true → Hears h (Receiving (h .number)) (Cs (h .number)) (unheard (h .block))
-  other-number : {p : Place} → Hears h p (Cs (other (h .number))) (accepted (h .block))
-  third : {p : Place} → Hears h p Cs3 (accepted (h .block))
+  other-number : Hears h (Receiving (other (h .number))) (Cs (other (h .number))) (accepted (h .block))
+  third : Hears h Asking Cs3 (accepted (h .block))
 
 abbrev HearsAt : Place → Place → First → Owed → Type 0
 HearsAt (Sending h) p f o = Hears h p f o
@@ -169,14 +170,11 @@ burst-is : {p : Place} {w : Words} (c : Circuit) → Says (c .sender) p (c .burs
 burst-is c (aloud q i) n = i
 burst-is c (no-more q i) n = absurd (n q)
 
-receiving-not-lost : (n : Number) → Receiving n ≡ Lost → ⊥
-receiving-not-lost n e = let z : _≡_ {A = ℕ} 0 1 = cc in omega arith
-
 -- The answer comes back to a station at Sending: the block is confirmed; or it was not accepted and is sent now; or a station is
 -- Lost and the block is not confirmed.
 data Back (c : Circuit) (h : Held) (e : Event) (r : Reply) : Type 0 where
   confirmed : confirmedBy (c .hearer) (heard e (c .burst)) ≡ h .block ∷ [] →
-      c .from-hearer .accepted ≡ c .from-hearer .confirmed ++ h .block ∷ [] → Back c h e r
+      c .from-hearer .accepted ≡ c .from-hearer .confirmed ++ h .block ∷ [] → Follows (c .hearer) (c .sender .place) r → Back c h e r
   block-now : (c .sender .place ≡ Lost → ⊥) → r .station .place ≡ Sending h → r .sent ≡ h .block → isBlock (h .block) ≡ true →
       confirmedBy (c .hearer) (heard e (c .burst)) ≡ [] → c .from-hearer .accepted ≡ c .from-hearer .confirmed ++ [] → Back c h e r
   timed-out : (c .sender .place ≡ Lost) ⊎ (r .station .place ≡ Lost) → confirmedBy (c .hearer) (heard e (c .burst)) ≡ [] →
@@ -205,9 +203,13 @@ module _
 
         go : (r .station .place ≡ Lost) ⊎ ((r .station .place ≡ c .hearer .place) × (r .sent ≡ h .block)) → Back c h e r
         go (inl z) = timed-out (inr z) none-now
-        go (inr z) = block-now (λ y. receiving-not-lost (h .number) (sym x ∙ y)) (z .0 ∙ at) (z .1) i none-now (u .accepted-is)
-    by p f o other-number x j u = confirmed (confirms-by f (first-word ∙ j) ∙ rw (same-other (h .number))) (u .accepted-is)
-    by p f o third x j u = confirmed (confirms-by f (first-word ∙ j)) (u .accepted-is)
+        go (inr z) = block-now (λ y. in-time (Receiving (h .number)) refl (sym x ∙ y)) (z .0 ∙ at) (z .1) i none-now (u .accepted-is)
+    by p f o other-number x j u =
+        let y = answers (c .hearer) (heard e (c .burst)) (e .offer) r is in
+        confirmed (confirms-by f (first-word ∙ j) ∙ rw (same-other (h .number))) (u .accepted-is) (took (e .offer) (y .is-fine) x (y .is-done ∙ rw (at, first-word, j, same-other (h .number))))
+    by p f o third x j u =
+        let y = answers (c .hearer) (heard e (c .burst)) (e .offer) r is in
+        confirmed (confirms-by f (first-word ∙ j)) (u .accepted-is) (turns {n = h .number} x (y .is-done ∙ rw (at, first-word, j)))
 
   comes-back : Back c h e r
   comes-back = go (l .says)
@@ -261,7 +263,7 @@ module _
       let a : acceptedBy (c .hearer) (heard e (c .burst)) ≡ [] = rw (awaits, heard-whole e (c .burst) whole ∙ rqs, rqs-no-block) in
       cc (append-nil (c .from-sender .accepted), append-nil (c .from-sender .confirmed))
   out-level x w o (sent-again n) p q u =
-      absurd (n (sym p ∙ place-here (c .hearer) (l .hears) awaits (receiving-not-lost (h .number))))
+      absurd (n (sym p ∙ place-here (c .hearer) (l .hears) awaits (in-time (Receiving (h .number)) refl)))
 
   goes-out-level : Level
   goes-out-level =
@@ -283,11 +285,13 @@ module _
   abbrev exchanged : Circuit
   exchanged = step (step c e₁ r₁) e₂ r₂
 
-  one : (c .hearer .place ≡ Receiving (h .number) → c .burst ≡ RQ×3 → ⊥) → Confirms h c exchanged ⊎ TimedOutFirst c exchanged
+  one : (c .hearer .place ≡ Receiving (h .number) → c .burst ≡ RQ×3 → ⊥) →
+      (Confirms h c exchanged × InTime exchanged) ⊎ TimedOutFirst c exchanged
   one apart = go back
     where
-      go : Back (step c e₁ r₁) h e₂ r₂ → Confirms h c exchanged ⊎ TimedOutFirst c exchanged
-      go (confirmed q a) = inl (record { rest = []; splits = cc (append-nil (c .from-sender .confirmed ++ h .block ∷ [])) })
+      go : Back (step c e₁ r₁) h e₂ r₂ → (Confirms h c exchanged × InTime exchanged) ⊎ TimedOutFirst c exchanged
+      go (confirmed q a w) =
+          inl (record { rest = []; splits = cc (append-nil (c .from-sender .confirmed ++ h .block ∷ [])) }, follows-in-time (c .sender) (r₁ .station .place) r₂ w)
       go (block-now alive p s i n a) =
           let g = goes-out c l h e₁ r₁ at whole₁ is₁ alive apart in
           absurd (omega (arith, ap length a, length-append (c .from-sender .confirmed) []))
@@ -297,7 +301,7 @@ module _
   not-by-one awaits rqs = go back
     where
       go : Back (step c e₁ r₁) h e₂ r₂ → exchanged .from-sender .confirmed ≡ c .from-sender .confirmed
-      go (confirmed q a) =
+      go (confirmed q a w) =
           let g = goes-out-level c l h e₁ at whole₁ awaits rqs in
           absurd (omega (arith, ap length (sym g ∙ a), length-append (c .from-sender .confirmed) (h .block ∷ [])))
       go (block-now alive p s i n a) = cc (append-nil (c .from-sender .confirmed))
@@ -327,18 +331,21 @@ module _
       let m : confirmedBy (r₂ .station) (heard e₄ (r₃ .sent)) ≡ [] = rw z in
       record { lost = inr (y .0); unconfirmed = cc (append-nil (c .from-sender .confirmed)) }
 
-  two : Confirms h c last ⊎ TimedOutFirst c last
+  two : (Confirms h c last × InTime last) ⊎ TimedOutFirst c last
   two = go (back c l h at e₁ e₂ whole₁ whole₂ r₁ r₂ is₁ is₂)
     where
-      go : Back (step c e₁ r₁) h e₂ r₂ → Confirms h c last ⊎ TimedOutFirst c last
-      go (confirmed q a) = inl (record { rest = confirmedBy (r₂ .station) (heard e₄ (r₃ .sent)); splits = cc })
+      go : Back (step c e₁ r₁) h e₂ r₂ → (Confirms h c last × InTime last) ⊎ TimedOutFirst c last
+      go (confirmed q a w) =
+          let y = subst (λ (b : Words). Answers (r₁ .station) b (e₃ .offer) r₃) (heard-whole e₃ (r₂ .sent) whole₃) (answers (r₁ .station) (heard e₃ (r₂ .sent)) (e₃ .offer) r₃ is₃) in
+          let z = answers (r₂ .station) (heard e₄ (r₃ .sent)) (e₄ .offer) r₄ is₄ in
+          inl (record { rest = confirmedBy (r₂ .station) (heard e₄ (r₃ .sent)); splits = cc }, goes-on (c .sender) (r₁ .station .place) r₂ (r₁ .station) (e₃ .offer) (e₄ .offer) (heard e₄ (r₃ .sent)) r₃ r₄ w refl y z)
       go (block-now alive p s i n a) =
           let l₂ = linked-step (step c e₁ r₁) e₂ r₂ (linked-step c e₁ r₁ l whole₁ is₁) whole₂ is₂ in
           second (one (step (step c e₁ r₁) e₂ r₂) l₂ h p e₃ e₄ whole₃ whole₄ r₃ r₄ is₃ is₄ (λ x y. not-rqs (h .block) i (sym s ∙ y)))
         where
-          second : Confirms h (step (step c e₁ r₁) e₂ r₂) last ⊎ TimedOutFirst (step (step c e₁ r₁) e₂ r₂) last →
-              Confirms h c last ⊎ TimedOutFirst c last
-          second (inl y) = inl (nothing-between (c .from-sender .confirmed) _ _ _ n y)
+          second : (Confirms h (step (step c e₁ r₁) e₂ r₂) last × InTime last) ⊎ TimedOutFirst (step (step c e₁ r₁) e₂ r₂) last →
+              (Confirms h c last × InTime last) ⊎ TimedOutFirst c last
+          second (inl y) = inl (nothing-between (c .from-sender .confirmed) _ _ _ n (y .0), y .1)
           second (inr y) = inr (record { lost = y .lost; unconfirmed = cc (y .unconfirmed, append-nil (c .from-sender .confirmed)) })
       go (timed-out t n) = inr (lost-by-then t n)
 
@@ -379,15 +386,19 @@ replies c d u = go (replied (said c (u .out)) (u .answered))
 
 module _ (c : Circuit) (l : Linked c) (h : Held) where
   abbrev Either : Circuit → Type 0
-  Either d = Confirms h c d ⊎ TimedOutFirst c d
+  Either d = (Confirms h c d × InTime d) ⊎ TimedOutFirst c d
+
+  confirmed-or : (d : Circuit) → Either d → Confirms h c d ⊎ TimedOutFirst c d
+  confirmed-or d (inl y) = inl (y .0)
+  confirmed-or d (inr y) = inr y
 
   pub one-exchange : (d : Circuit) → c .sender .place ≡ Sending h → Exchanged c d → ¬ AwaitsAtRq h c →
       Confirms h c d ⊎ TimedOutFirst c d
   one-exchange d at u apart = go (replies c d u)
     where
-      go : Replies c d → Either d
+      go : Replies c d → Confirms h c d ⊎ TimedOutFirst c d
       go y =
-          subst Either (sym (y .ends-as)) (one c l h at (y .e₁) (y .e₂) (y .whole₁) (y .whole₂) (y .r₁) (y .r₂) (y .is₁) (y .is₂) (λ a b. apart (a, b)))
+          confirmed-or d (subst Either (sym (y .ends-as)) (one c l h at (y .e₁) (y .e₂) (y .whole₁) (y .whole₂) (y .r₁) (y .r₂) (y .is₁) (y .is₂) (λ a b. apart (a, b))))
 
   pub two-are-needed : (d : Circuit) → c .sender .place ≡ Sending h → Exchanged c d → AwaitsAtRq h c →
       d .from-sender .confirmed ≡ c .from-sender .confirmed
@@ -397,9 +408,8 @@ module _ (c : Circuit) (l : Linked c) (h : Held) where
       go y =
           ap (λ (x : Circuit). x .from-sender .confirmed) (y .ends-as) ∙ not-by-one c l h at (y .e₁) (y .e₂) (y .whole₁) (y .whole₂) (y .r₁) (y .r₂) (y .is₁) (y .is₂) awaits rqs
 
-  pub two-exchanges : (d g : Circuit) → c .sender .place ≡ Sending h → Exchanged c d → Exchanged d g →
-      Confirms h c g ⊎ TimedOutFirst c g
-  two-exchanges d g at u v = go (replies c d u)
+  either : (d g : Circuit) → c .sender .place ≡ Sending h → Exchanged c d → Exchanged d g → Either g
+  either d g at u v = go (replies c d u)
     where
       both : (y : Replies c d) → Replies (step (step c (y .e₁) (y .r₁)) (y .e₂) (y .r₂)) g → Either g
       both y z =
@@ -407,3 +417,15 @@ module _ (c : Circuit) (l : Linked c) (h : Held) where
 
       go : Replies c d → Either g
       go y = both y (replies _ g (subst (λ (x : Circuit). Exchanged x g) (y .ends-as) v))
+
+  pub two-exchanges : (d g : Circuit) → c .sender .place ≡ Sending h → Exchanged c d → Exchanged d g →
+      Confirms h c g ⊎ TimedOutFirst c g
+  two-exchanges d g at u v = confirmed-or g (either d g at u v)
+
+  pub confirmed-in-time : (d g : Circuit) → c .sender .place ≡ Sending h → Exchanged c d → Exchanged d g → Confirms h c g → InTime g
+  confirmed-in-time d g at u v b = go (either d g at u v)
+    where
+      go : Either g → InTime g
+      go (inl y) = y .1
+      go (inr y) =
+          absurd (omega (arith, ap length (sym (y .unconfirmed) ∙ b .splits), length-append (c .from-sender .confirmed ++ h .block ∷ []) (b .rest), length-append (c .from-sender .confirmed) (h .block ∷ [])))

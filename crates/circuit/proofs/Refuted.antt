@@ -33,8 +33,9 @@ use Rattle.mode_a.specs.Rows.{rowOf, sending, opening, asking, receiving}
 use Rattle.mode_a.specs.Step.{isOver, trafficIn, done, sound, stepping}
 use Rattle.signals.specs.Damage.{kept, hurt}
 use Rattle.circuit.specs.Circuit.{Event, heard, Whole, Run, start, _▷_, Direction, Circuit, fresh, said, confirmedBy, answeredBy, goesOn, next, after, AllHarmless, isAnswered}
-use Rattle.circuit.specs.Demand.{Carried, Kept, Exchanged, Confirms, TimedOutFirst, Demand3}
+use Rattle.circuit.specs.Demand.{Carried, Kept, Exchanged, Confirms, TimedOutFirst, InTime, Demand3}
 use Rattle.circuit.proofs.RunLaws.{answers}
+use Rattle.circuit.proofs.TimeLaws.{in-time}
 use Rattle.circuit.proofs.Theorem.{demand3}
 use Rattle.circuit.proofs.Computed.{run-of, through, computed}
 use Rattle.circuit.proofs.Runs.{clear, faded, struck, signals3, text, none, isHarmless, harmless-if}
@@ -58,24 +59,7 @@ exchanged : (c : Circuit) → isAnswered (said c (clear none)) ≡ true → isAn
 exchanged c i j =
     record { out = clear none; back = clear none; whole = whole none; whole-back = whole none; answered = i; answered-back = j; leads = refl }
 
--- a computed place is not Lost
-abbrev isLost : Place → Bool
-isLost (Sending h) = false
-isLost (Turning n) = false
-isLost Opening = false
-isLost (Ending e) = false
-isLost (Receiving n) = false
-isLost Asking = false
-isLost StandBy = false
-isLost Lost = true
-
-in-time : (p : Place) → isLost p ≡ false → p ≡ Lost → ⊥
-in-time p i e = let z : true ≡ false = subst (λ (q : Place). isLost q ≡ false) e i in let y : _≡_ {A = ℕ} 0 1 = cc in omega arith
-
 -- where neither station is Lost the block is confirmed
-abbrev InTime : Circuit → Type 0
-InTime c = ¬ (c .hearer .place ≡ Lost) × ¬ (c .sender .place ≡ Lost)
-
 if-in-time : {A : Type 0} {c d : Circuit} → A ⊎ TimedOutFirst c d → InTime d → A
 if-in-time (inl b) t = b
 if-in-time {A} {c} {d} (inr z) t = go (z .lost)

@@ -66,6 +66,10 @@ pub record TimedOutFirst (c d : Circuit) : Type 0 where
   pub lost : (d .hearer .place ≡ Lost) ⊎ (d .sender .place ≡ Lost)
   pub unconfirmed : d .from-sender .confirmed ≡ c .from-sender .confirmed
 
+-- neither station is Lost
+abbrev pub InTime : Circuit → Type 0
+InTime c = ¬ (c .hearer .place ≡ Lost) × ¬ (c .sender .place ≡ Lost)
+
 -- the other still awaits the block, and RQ RQ RQ is on the way in its place
 abbrev pub AwaitsAtRq : Held → Circuit → Type 0
 AwaitsAtRq h c = (c .hearer .place ≡ Receiving (h .number)) × (c .burst ≡ RQ×3)
@@ -82,6 +86,7 @@ InOrder Offer.Nothing = Unit {0}
 --     never-both-sending       "The two never both have text on the way."
 --     two-exchanges            "A block waiting for its confirmation, the end block apart, gets it within two undamaged exchanges in
 --                              succession, each begun by its sender, unless a station reaches its time-out first."
+--     confirmed-in-time        and where it gets it, neither station is Lost at their end: no third case is left
 --     one-exchange             one is enough, but for one case;
 --     two-are-needed           in that case one is not
 --     opening-hears-no-cs3     whatever the damage that is none of the 35
@@ -94,6 +99,8 @@ pub record Demand3 (c : Circuit) : Type 0 where
   pub never-both-sending : (h g : Held) → c .hearer .place ≡ Sending h → ¬ (c .sender .place ≡ Sending g)
   pub two-exchanges : (h : Held) (d g : Circuit) → c .sender .place ≡ Sending h → Exchanged c d → Exchanged d g →
       Confirms h c g ⊎ TimedOutFirst c g
+  pub confirmed-in-time : (h : Held) (d g : Circuit) → c .sender .place ≡ Sending h → Exchanged c d → Exchanged d g →
+      Confirms h c g → InTime g
   pub one-exchange : (h : Held) (d : Circuit) → c .sender .place ≡ Sending h → Exchanged c d → ¬ AwaitsAtRq h c →
       Confirms h c d ⊎ TimedOutFirst c d
   pub two-are-needed : (h : Held) (d : Circuit) → c .sender .place ≡ Sending h → Exchanged c d → AwaitsAtRq h c →
