@@ -3,6 +3,7 @@
 --     Link         what links the two stations, phase by phase
 --     StepLaws     a step leads from link to link
 --     RunLaws      so every circuit of a run is linked; what follows at once
+--     TimeLaws     the exchange after a confirmation: neither station is Lost in it
 --     LiveLaws     undamaged exchanges
 --     SoundLaws    a station of a run is sound
 --     Theorem      demand 3
@@ -13,6 +14,7 @@ pub mod DamageLaws
 pub mod Link
 pub mod StepLaws
 pub mod RunLaws
+pub mod TimeLaws
 pub mod LiveLaws
 pub mod SoundLaws
 pub mod Theorem

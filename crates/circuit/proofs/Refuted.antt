@@ -6,6 +6,7 @@
 -- Assumes nothing.
 use mathlib.Core.Path.{_≡_, refl, ap, subst, sym, _∙_}
 use mathlib.Core.Bool.{Bool, true, false}
+use mathlib.Core.Logic.{_⊎_, inl, inr}
 use mathlib.Core.List.{List, [], _∷_, _++_}
 use Prim.Native.Nat.{ℕ, zero, suc, _≤_}
 use native.Mathlib.Omega.{arith}
@@ -32,8 +33,9 @@ use Rattle.mode_a.specs.Rows.{rowOf, sending, opening, asking, receiving}
 use Rattle.mode_a.specs.Step.{isOver, trafficIn, done, sound, stepping}
 use Rattle.signals.specs.Damage.{kept, hurt}
 use Rattle.circuit.specs.Circuit.{Event, heard, Whole, Run, start, _▷_, Direction, Circuit, fresh, said, confirmedBy, answeredBy, goesOn, next, after, AllHarmless, isAnswered}
-use Rattle.circuit.specs.Demand.{Carried, Kept, Exchanged, InTime, Confirms, Demand3}
+use Rattle.circuit.specs.Demand.{Carried, Kept, Exchanged, Confirms, TimedOutFirst, InTime, Demand3}
 use Rattle.circuit.proofs.RunLaws.{answers}
+use Rattle.circuit.proofs.TimeLaws.{in-time}
 use Rattle.circuit.proofs.Theorem.{demand3}
 use Rattle.circuit.proofs.Computed.{run-of, through, computed}
 use Rattle.circuit.proofs.Runs.{clear, faded, struck, signals3, text, none, isHarmless, harmless-if}
@@ -57,19 +59,14 @@ exchanged : (c : Circuit) → isAnswered (said c (clear none)) ≡ true → isAn
 exchanged c i j =
     record { out = clear none; back = clear none; whole = whole none; whole-back = whole none; answered = i; answered-back = j; leads = refl }
 
--- a computed place is not Lost
-abbrev isLost : Place → Bool
-isLost (Sending h) = false
-isLost (Turning n) = false
-isLost Opening = false
-isLost (Ending e) = false
-isLost (Receiving n) = false
-isLost Asking = false
-isLost StandBy = false
-isLost Lost = true
-
-in-time : (p : Place) → isLost p ≡ false → p ≡ Lost → ⊥
-in-time p i e = let z : true ≡ false = subst (λ (q : Place). isLost q ≡ false) e i in let y : _≡_ {A = ℕ} 0 1 = cc in omega arith
+-- where neither station is Lost the block is confirmed
+if-in-time : {A : Type 0} {c d : Circuit} → A ⊎ TimedOutFirst c d → InTime d → A
+if-in-time (inl b) t = b
+if-in-time {A} {c} {d} (inr z) t = go (z .lost)
+  where
+    go : (d .hearer .place ≡ Lost) ⊎ (d .sender .place ≡ Lost) → A
+    go (inl e) = absurd (t .0 e)
+    go (inr e) = absurd (t .1 e)
 
 -- printing is never ahead
 no-lock-step : ((run : Run) → AllHarmless run → length (after run .from-hearer .accepted) ≤ length (after run .from-hearer .confirmed)) →
@@ -82,11 +79,11 @@ no-lock-step claim =
 abbrev twice-damaged : Run
 twice-damaged = start ▷ clear (text 1 2 3) ▷ struck none ▷ faded none
 
-no-single-exchange : ((run : Run) → AllHarmless run → (h : Held) (d : Circuit) → after run .sender .place ≡ Sending h → Exchanged (after run) d → InTime d → Confirms h (after run) d) →
+no-single-exchange : ((run : Run) → AllHarmless run → (h : Held) (d : Circuit) → after run .sender .place ≡ Sending h → Exchanged (after run) d → Confirms h (after run) d ⊎ TimedOutFirst (after run) d) →
     ⊥
 unfolding AllHarmless after stepping sound done firstNot isBlock mayHold trafficOf meaningOf heardOf firstOf isWords listened trafficIn
 no-single-exchange claim =
-    let b = claim twice-damaged (((tt, (tt, tt, tt)), (tt, refl, tt)), (refl, tt, tt)) (record { number = One; block = signals3 1 2 3 }) _ refl (exchanged (after twice-damaged) refl refl) (in-time _ refl, in-time _ refl) in
+    let b = if-in-time (claim twice-damaged (((tt, (tt, tt, tt)), (tt, refl, tt)), (refl, tt, tt)) (record { number = One; block = signals3 1 2 3 }) _ refl (exchanged (after twice-damaged) refl refl)) (in-time _ refl, in-time _ refl) in
     not-none (length (b .rest)) (ap length (b .splits))
 
 -- the time-out left out: both have repeated 31 times
@@ -162,25 +159,21 @@ no-over-as-a-block claim =
     omega arith
 
 -- the end block not excepted: it gets its confirmation where its sender hears the other number
-data Or (A B : Type 0) : Type 0 where
-  in-the-first : A → Or A B
-  in-the-second : B → Or A B
-
 abbrev HearsOther : Ended → Circuit → Event → Type 0
 HearsOther x c e = firstOf (next c e .burst .0) ≡ Cs (other (x .number))
 
 abbrev end-answer-lost : Run
 end-answer-lost = start ▷ clear Offer.End ▷ clear none ▷ faded none
 
-no-end-block : ((run : Run) → AllHarmless run → (x : Ended) (d g : Circuit) → after run .sender .place ≡ Ending x → (u : Exchanged (after run) d) (v : Exchanged d g) → InTime g → Or (HearsOther x (after run) (u .out)) (HearsOther x d (v .out))) →
+no-end-block : ((run : Run) → AllHarmless run → (x : Ended) (d g : Circuit) → after run .sender .place ≡ Ending x → (u : Exchanged (after run) d) (v : Exchanged d g) → InTime g → HearsOther x (after run) (u .out) ⊎ HearsOther x d (v .out)) →
     ⊥
 unfolding AllHarmless after stepping sound done firstNot isBlock mayHold trafficOf meaningOf heardOf firstOf isWords listened trafficIn exchanged
 no-end-block claim =
     go (claim end-answer-lost (((tt, (tt, tt, tt)), (tt, tt, tt)), (refl, tt, tt)) (record { number = One; total = 2 }) _ _ refl (exchanged (after end-answer-lost) refl refl) (exchanged (exchange (after end-answer-lost)) refl refl) (in-time _ refl, in-time _ refl))
   where
-    go : Or (Else ≡ Cs Two) (Else ≡ Cs Two) → ⊥
-    go (in-the-first e) = let y : _≡_ {A = ℕ} 0 1 = cc in omega arith
-    go (in-the-second e) = let y : _≡_ {A = ℕ} 0 1 = cc in omega arith
+    go : (Else ≡ Cs Two) ⊎ (Else ≡ Cs Two) → ⊥
+    go (inl e) = let y : _≡_ {A = ℕ} 0 1 = cc in omega arith
+    go (inr e) = let y : _≡_ {A = ℕ} 0 1 = cc in omega arith
 
 -- Wrong readings. The rows with those of Sending, Opening, Receiving and Asking read otherwise; 01's where they are not.
 abbrev rowsWith : (Held → First → Doing) → (Role → First → Doing) → (Number → Heard → Offer → Doing) → (Heard → Doing) → Role →
@@ -228,7 +221,7 @@ Undamaged step c d e = Whole d × Whole e × (isAnswered (said c d) ≡ true) ×
 
 abbrev TwoFrom : (Circuit → Event → Circuit) → Circuit → Type 0
 TwoFrom step c =
-    (h : Held) (e₁ e₂ e₃ e₄ : Event) → c .sender .place ≡ Sending h → Undamaged step c e₁ e₂ → Undamaged step (step (step c e₁) e₂) e₃ e₄ → InTime (step (step (step (step c e₁) e₂) e₃) e₄) → Confirms h c (step (step (step (step c e₁) e₂) e₃) e₄)
+    (h : Held) (e₁ e₂ e₃ e₄ : Event) → c .sender .place ≡ Sending h → Undamaged step c e₁ e₂ → Undamaged step (step (step c e₁) e₂) e₃ e₄ → let g = step (step (step (step c e₁) e₂) e₃) e₄ in Confirms h c g ⊎ TimedOutFirst c g
 
 abbrev TwoExchangesBy : (Circuit → Event → Circuit) → Type 0
 TwoExchangesBy step = (es : List Event) → isHarmless es ≡ true → TwoFrom step (through step fresh es)
@@ -265,7 +258,7 @@ exchanged-by c d e (w, v, i, j) =
 
 right-exchanges : TwoExchangesBy rightStep
 right-exchanges =
-    subst TwoExchangesBy (sym right-steps) (λ es h k e₁ e₂ e₃ e₄ p u v t. of-run es h .two-exchanges k _ _ p (exchanged-by (through next fresh es) e₁ e₂ u) (exchanged-by (next (next (through next fresh es) e₁) e₂) e₃ e₄ v) t)
+    subst TwoExchangesBy (sym right-steps) (λ es h k e₁ e₂ e₃ e₄ p u v. of-run es h .two-exchanges k _ _ p (exchanged-by (through next fresh es) e₁ e₂ u) (exchanged-by (next (next (through next fresh es) e₁) e₂) e₃ e₄ v))
 
 -- "CS3: confirmed" read as all else: the block is never confirmed. What is counted is what this reading counts: nothing at CS3.
 abbrev ignoresCs3 : Held → First → Doing
@@ -300,7 +293,7 @@ notCountingCs3 step c e =
 cs3-ignored-is-caught : TwoExchangesBy (notCountingCs3 (stepBy (rowsWith ignoresCs3 opening receives asking))) → ⊥
 unfolding through stepping sound done firstNot isBlock mayHold trafficOf meaningOf heardOf firstOf isWords listened trafficIn
 cs3-ignored-is-caught claim =
-    let b = claim (clear (text 1 2 3) ∷ []) refl (record { number = One; block = signals3 1 2 3 }) (clear Offer.Over) (clear none) (clear none) (clear none) refl (whole Offer.Over, whole none, refl, refl) (whole none, whole none, refl, refl) (in-time _ refl, in-time _ refl) in
+    let b = if-in-time (claim (clear (text 1 2 3) ∷ []) refl (record { number = One; block = signals3 1 2 3 }) (clear Offer.Over) (clear none) (clear none) (clear none) refl (whole Offer.Over, whole none, refl, refl) (whole none, whole none, refl, refl)) (in-time _ refl, in-time _ refl) in
     not-none (length (b .rest)) (ap length (b .splits))
 
 -- CS3 taken as no confirmation, and the block sent again after the turn: it is printed twice. At Opening such a station sends, in
@@ -358,7 +351,7 @@ alwaysRq h f = Repeats RQ×3
 always-rq-is-caught : TwoExchangesBy (stepBy (rowsWith alwaysRq opening receives asking)) → ⊥
 unfolding through stepping sound done firstNot isBlock mayHold trafficOf meaningOf heardOf firstOf isWords listened trafficIn
 always-rq-is-caught claim =
-    let b = claim (clear (text 1 2 3) ∷ struck none ∷ faded none ∷ []) refl (record { number = One; block = signals3 1 2 3 }) (clear none) (clear none) (clear none) (clear none) refl (whole none, whole none, refl, refl) (whole none, whole none, refl, refl) (in-time _ refl, in-time _ refl) in
+    let b = if-in-time (claim (clear (text 1 2 3) ∷ struck none ∷ faded none ∷ []) refl (record { number = One; block = signals3 1 2 3 }) (clear none) (clear none) (clear none) (clear none) refl (whole none, whole none, refl, refl) (whole none, whole none, refl, refl)) (in-time _ refl, in-time _ refl) in
     not-none (length (b .rest)) (ap length (b .splits))
 
 -- Sending that gives up at all else: its block is dropped, with nobody Lost
@@ -394,7 +387,7 @@ opensAtRq h = if h .RQs then Opens else asking h
 rq-for-βαβ-is-caught : TwoExchangesBy (stepBy (rowsWith sending opening receives opensAtRq)) → ⊥
 unfolding through stepping sound done firstNot isBlock mayHold trafficOf meaningOf heardOf firstOf isWords listened trafficIn
 rq-for-βαβ-is-caught claim =
-    let b = claim (clear (text 1 2 3) ∷ clear Offer.Over ∷ faded none ∷ clear none ∷ clear none ∷ []) refl (record { number = One; block = signals3 1 2 3 }) (clear none) (clear none) (clear none) (clear none) refl (whole none, whole none, refl, refl) (whole none, whole none, refl, refl) (in-time _ refl, in-time _ refl) in
+    let b = if-in-time (claim (clear (text 1 2 3) ∷ clear Offer.Over ∷ faded none ∷ clear none ∷ clear none ∷ []) refl (record { number = One; block = signals3 1 2 3 }) (clear none) (clear none) (clear none) (clear none) refl (whole none, whole none, refl, refl) (whole none, whole none, refl, refl)) (in-time _ refl, in-time _ refl) in
     not-none (length (b .rest)) (ap length (b .splits))
 
 -- "or the offer is over" applied to a burst that is no block: it is confirmed and not printed

@@ -2,6 +2,7 @@
 --     through-three-turns, and-back   text both ways, through a turn by an over sent, by an over offered at Receiving, and by + ? inside
 --                                     text, with damage at each turn, to the end: all is printed and confirmed
 --     printed-and-lost                a station times out with a block that is printed and not confirmed
+--     confirmed-at-31                 both have repeated 31 times, and the confirmation still comes in time
 -- Assumes nothing.
 use mathlib.Core.Path.{_≡_, refl, sym, subst}
 use mathlib.Core.Bool.{Bool, true, _&&_}
@@ -163,3 +164,21 @@ pub printed-and-lost : (after timed-out .sender .place ≡ Lost) × (after timed
 unfolding after through stepping sound done firstNot isBlock mayHold trafficOf meaningOf heardOf firstOf isWords listened trafficIn
 printed-and-lost =
     subst (λ (c : Circuit). (c .sender .place ≡ Lost) × (c .from-sender .printed ≡ wordNo 1 ∷ wordNo 2 ∷ wordNo 3 ∷ []) × (c .from-sender .confirmed ≡ [])) (sym (computed start fade)) (refl, refl, refl)
+
+-- Its answer is damaged 31 times and heard the next time: the master has repeated 31 times before it and the slave 31 times with it.
+-- The block is confirmed, and the next one is accepted.
+abbrev hold : List Event
+hold = clear (text 1 2 3) ∷ clear none ∷ unheard 30 (faded none ∷ [])
+
+abbrev answered-at-last : List Event
+answered-at-last = hold ++ clear none ∷ clear (text 4 5 6) ∷ []
+
+pub confirmed-at-31 : let c = after (run-of start hold) in let d = after (run-of start answered-at-last) in let g = after (run-of start (answered-at-last ++ clear none ∷ [])) in
+    (c .sender .count ≡ 31) × (d .hearer .count ≡ 31) × (d .from-sender .confirmed ≡ signals3 1 2 3 ∷ []) × (g .from-hearer .accepted ≡ signals3 1 2 3 ∷ signals3 4 5 6 ∷ [])
+unfolding after through stepping sound done firstNot isBlock mayHold trafficOf meaningOf heardOf firstOf isWords listened trafficIn
+confirmed-at-31 = (
+  subst (λ (c : Circuit). c .sender .count ≡ 31) (sym (computed start hold)) refl,
+  subst (λ (c : Circuit). c .hearer .count ≡ 31) (sym (computed start answered-at-last)) refl,
+  subst (λ (c : Circuit). c .from-sender .confirmed ≡ signals3 1 2 3 ∷ []) (sym (computed start answered-at-last)) refl,
+  subst (λ (c : Circuit). c .from-hearer .accepted ≡ signals3 1 2 3 ∷ signals3 4 5 6 ∷ []) (sym (computed start (answered-at-last ++ clear none ∷ []))) refl,
+)

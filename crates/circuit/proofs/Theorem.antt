@@ -3,7 +3,7 @@ use Rattle.circuit.specs.Circuit.{Circuit, after}
 use Rattle.circuit.specs.Demand.{Demand3, OfEveryRun}
 use Rattle.circuit.proofs.Link.{Linked}
 use Rattle.circuit.proofs.RunLaws.{linked, carried, hearer-keeps, sender-keeps, never-both, no-cs3-heard}
-use Rattle.circuit.proofs.LiveLaws.{one-exchange, two-are-needed, two-exchanges}
+use Rattle.circuit.proofs.LiveLaws.{one-exchange, two-are-needed, two-exchanges, confirmed-in-time}
 use Rattle.circuit.proofs.SoundLaws.{BothSound, answered-if, sound-run}
 
 of-linked : (c : Circuit) → Linked c → BothSound c → Demand3 c
@@ -15,6 +15,7 @@ of-linked c l s =
       sender-keeps = sender-keeps c l;
       never-both-sending = never-both c l;
       two-exchanges = two-exchanges c l;
+      confirmed-in-time = confirmed-in-time c l;
       one-exchange = one-exchange c l;
       two-are-needed = two-are-needed c l;
       opening-hears-no-cs3 = no-cs3-heard c l;

@@ -2,6 +2,7 @@
 -- Assumes nothing.
 use mathlib.Core.Path.{_≡_}
 use mathlib.Core.Bool.{true}
+use mathlib.Core.Logic.{_⊎_}
 use mathlib.Core.List.{List, [], _∷_, _++_}
 use Prim.Native.Nat.{ℕ, _+_, _≤_}
 use lib.ListN.{length}
@@ -56,13 +57,18 @@ pub record Exchanged (c d : Circuit) : Type 0 where
   pub answered-back : isAnswered (said (next c out) back) ≡ true
   pub leads : d ≡ next (next c out) back
 
--- "unless a station reaches its time-out first": neither is Lost then, so that neither was before, as Lost is for good
-abbrev pub InTime : Circuit → Type 0
-InTime c = ¬ (c .hearer .place ≡ Lost) × ¬ (c .sender .place ≡ Lost)
-
 -- the block that the sender holds is the next that it counts as confirmed
 abbrev pub Confirms : Held → Circuit → Circuit → Type 0
 Confirms h c d = Beginning Words (c .from-sender .confirmed ++ h .block ∷ []) (d .from-sender .confirmed)
+
+-- "unless a station reaches its time-out first": one of the two is Lost, and the sender counts no more as confirmed than before
+pub record TimedOutFirst (c d : Circuit) : Type 0 where
+  pub lost : (d .hearer .place ≡ Lost) ⊎ (d .sender .place ≡ Lost)
+  pub unconfirmed : d .from-sender .confirmed ≡ c .from-sender .confirmed
+
+-- neither station is Lost
+abbrev pub InTime : Circuit → Type 0
+InTime c = ¬ (c .hearer .place ≡ Lost) × ¬ (c .sender .place ≡ Lost)
 
 -- the other still awaits the block, and RQ RQ RQ is on the way in its place
 abbrev pub AwaitsAtRq : Held → Circuit → Type 0
@@ -80,6 +86,7 @@ InOrder Offer.Nothing = Unit {0}
 --     never-both-sending       "The two never both have text on the way."
 --     two-exchanges            "A block waiting for its confirmation, the end block apart, gets it within two undamaged exchanges in
 --                              succession, each begun by its sender, unless a station reaches its time-out first."
+--     confirmed-in-time        and where it gets it, neither station is Lost at their end: no third case is left
 --     one-exchange             one is enough, but for one case;
 --     two-are-needed           in that case one is not
 --     opening-hears-no-cs3     whatever the damage that is none of the 35
@@ -90,11 +97,13 @@ pub record Demand3 (c : Circuit) : Type 0 where
   pub hearer-keeps : Kept (c .hearer .place) (c .from-hearer)
   pub sender-keeps : Kept (c .sender .place) (c .from-sender)
   pub never-both-sending : (h g : Held) → c .hearer .place ≡ Sending h → ¬ (c .sender .place ≡ Sending g)
-  pub two-exchanges : (h : Held) (d g : Circuit) → c .sender .place ≡ Sending h → Exchanged c d → Exchanged d g → InTime g →
-      Confirms h c g
-  pub one-exchange : (h : Held) (d : Circuit) → c .sender .place ≡ Sending h → Exchanged c d → InTime d → ¬ AwaitsAtRq h c →
-      Confirms h c d
-  pub two-are-needed : (h : Held) (d : Circuit) → c .sender .place ≡ Sending h → Exchanged c d → InTime d → AwaitsAtRq h c →
+  pub two-exchanges : (h : Held) (d g : Circuit) → c .sender .place ≡ Sending h → Exchanged c d → Exchanged d g →
+      Confirms h c g ⊎ TimedOutFirst c g
+  pub confirmed-in-time : (h : Held) (d g : Circuit) → c .sender .place ≡ Sending h → Exchanged c d → Exchanged d g →
+      Confirms h c g → InTime g
+  pub one-exchange : (h : Held) (d : Circuit) → c .sender .place ≡ Sending h → Exchanged c d → ¬ AwaitsAtRq h c →
+      Confirms h c d ⊎ TimedOutFirst c d
+  pub two-are-needed : (h : Held) (d : Circuit) → c .sender .place ≡ Sending h → Exchanged c d → AwaitsAtRq h c →
       d .from-sender .confirmed ≡ c .from-sender .confirmed
   pub opening-hears-no-cs3 : (e : Event) → Harmless e → c .hearer .place ≡ Opening → ¬ (firstOf (heard e (c .burst) .0) ≡ Cs3)
   pub refuses-only-offers : (e : Event) → InOrder (e .offer) → isAnswered (said c e) ≡ true

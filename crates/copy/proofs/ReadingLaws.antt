@@ -113,12 +113,6 @@ first-alone Position.phasing s (hurt u) m = rw (mutilated u m .not-intact) (quie
 first-alone (Position.signal w) s (hurt u) m = rw (mutilated u m .not-intact) (quiet (refl, refl))
 first-alone Position.idle s (hurt u) m = rw (mutilated u m .not-intact) (quiet (refl, refl))
 
-counted : (p : Position) → Word p → (b : Damage) → NoSignal b → Quiet false (settled rq (arrives b (rxOf p)))
-counted Position.phasing s b n = settles-phasing false kept b tt n (inl refl)
-counted (Position.signal w) s kept n = settles-counted w s
-counted (Position.signal w) s (hurt v) n = settles-phasing false kept (hurt v) tt n (inl refl)
-counted Position.idle s b n = settles-phasing false kept b tt n (inl refl)
-
 and-swap : (a b : Bool) → a && b ≡ b && a
 and-swap true true = refl
 and-swap true false = refl
@@ -238,16 +232,16 @@ module _ (d : Damages) (good : (k : ℕ) → NoSignal (d k)) where
           ∙ rw (after-end (suc (twoOn k)) before last p ps (d k) s o (and-left (intactα last (d k)) (intactα p (d (twoOn k))) e), alone))
           nothing
       go false e =
-          let q = counted before s (d (suc (twoOn k))) (good (suc (twoOn k))) in
+          let q = settles-counted (arrives (d (suc (twoOn k))) (rxOf before)) in
           printed-as
           (waits-settles first rq (arrives (d k) (dxOf last)) false (arrives (d (twoOn k)) (dxOf p)) (arrives (d (suc (twoOn k))) (rxOf before)) (heardOn (twoOn (twoOn k)) last p ps) (test ∙ e))
           (rw (q .0, q .1) (unbegun ps k rq last p o))
 
-  both-counted : (ps : List Position) (k first : ℕ) (before last : Position) → Word before → Word last → Ordered ps → Printed d k ps (listen (inPhase first rq rq true false) (heardOn k before last ps))
+  both-counted : (ps : List Position) (k first : ℕ) (before last : Position) → Word last → Ordered ps → Printed d k ps (listen (inPhase first rq rq true false) (heardOn k before last ps))
   unfolding listen heardFrom slotsFrom
-  both-counted [] k first before last s t o = nothing
-  both-counted (p ∷ ps) k first before last s t o =
-      let q = counted before s (d (suc k)) (good (suc k)) in
+  both-counted [] k first before last t o = nothing
+  both-counted (p ∷ ps) k first before last t o =
+      let q = settles-counted (arrives (d (suc k)) (rxOf before)) in
       printed-as
       (waits-settles first rq rq false (arrives (d k) (dxOf p)) (arrives (d (suc k)) (rxOf before)) (heardOn (twoOn k) last p ps) (and-swap (eqb (arrives (d k) (dxOf p)) alpha) false))
       (rw (q .0, q .1) (one-counted ps k rq last p t o))
@@ -315,12 +309,12 @@ module _ (d : Damages) (good : (k : ℕ) → NoSignal (d k)) where
   searching [] k before last r s t o b = nothing
   searching (p ∷ ps) k before last r s t o b =
       let x = in-dx (arrives (d k) (dxOf p)) r b in
-      let y = in-rx (arrives (d (suc k)) (rxOf before)) (rx-not-rq before s (d (suc k)) (good (suc k))) (counted before s (d (suc k)) (good (suc k))) _ (x .1) in
+      let y = in-rx (arrives (d (suc k)) (rxOf before)) (rx-not-rq before s (d (suc k)) (good (suc k))) (settles-counted (arrives (d (suc k)) (rxOf before))) _ (x .1) in
       rw (x .0, y .0) (behind (go _ (y .1) (λ r b. searching ps (twoOn k) last p r t (word p ps o) (rest p ps o) b)))
     where
       go : (r : Receiver) → Next r → ((r : Receiver) → BeforeDx r → Printed d (twoOn k) ps (listen r (heardFrom d (twoOn k) (slotsFrom last p ps)))) → Printed d (twoOn k) ps (listen r (heardFrom d (twoOn k) (slotsFrom last p ps)))
       go r (seeks b) ih = ih r b
-      go r locks ih = both-counted d good ps (twoOn k) rq last p t (word p ps o) (rest p ps o)
+      go r locks ih = both-counted d good ps (twoOn k) rq last p (word p ps o) (rest p ps o)
 
 -- a broadcast is phasing and traffic, and then α
 sent-ordered : (ps : List Position) → AllSent ps → Ordered (ps ++ replicate 17 Position.idle)

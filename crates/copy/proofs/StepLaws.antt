@@ -1,12 +1,11 @@
 -- One slot: what a receiver prints in it, and what it is after it. Assumes nothing.
-use mathlib.Core.Path.{_≡_, refl, sym, _∙_}
-use mathlib.Core.Bool.{Bool, true, false, _&&_, false≢true}
+use mathlib.Core.Path.{_≡_, refl, ap, _∙_}
+use mathlib.Core.Bool.{Bool, true, false, _&&_}
 use mathlib.Core.Logic.{_⊎_, inl, inr}
 use mathlib.Core.List.{List, [], _∷_, _++_}
 use Prim.Native.Nat.{ℕ}
 use native.Mathlib.Omega.{arith}
 use lib.Dec.{eqb}
-use borrow.Author.Tests.{eq-eqb, ne-eqb}
 use Rattle.signals.specs.Units.{intactOf, onesOf}
 use Rattle.signals.specs.Meaning.{trafficOf, meaningOf, alpha, rq}
 use Rattle.mode_b.specs.declared.Phasing.{Phasing}
@@ -14,6 +13,7 @@ use Rattle.mode_b.specs.declared.Hearing.the-variants.{Searching, InPhase}
 use Rattle.mode_b.specs.declared.Receiver.{Receiver}
 use Rattle.mode_b.specs.Sender.{Position, dxOf}
 use Rattle.mode_b.specs.Receiver.{Settled, settled, settledAlone, printedOf, printingAfter, heardDx, heardRx, freshReceiver}
+use Rattle.mode_b.proofs.PhaseLaws.{rq-prints-nothing}
 use Rattle.signals.specs.Damage.{Damage, kept, hurt, arrives, NoSignal}
 use Rattle.copy.specs.Run.{one, listen}
 use Rattle.copy.proofs.WordLaws.{Mutilated, mutilated, Traffic, eqb-self}
@@ -110,7 +110,6 @@ settles-unbegun kept b m n = settles-phasing false kept b m n (inl refl)
 settles-unbegun (hurt u) kept m n = settles-phasing false (hurt u) kept m n (inr refl)
 settles-unbegun (hurt u) (hurt v) m n = rw (settles-error u v (mutilated u m) (mutilated v n)) (refl, refl)
 
--- A word taken for RQ when the receiver came into phase: before printing has begun its position prints nothing, whatever it is.
-pub settles-counted : (w : ℕ) → Traffic w → Quiet false (settled rq w)
-unfolding settled intactOf onesOf
-settles-counted w t = rw (t .is-intact, ne-eqb rq w (λ e. false≢true (sym (t .not-rq) ∙ eq-eqb w rq (sym e))), t .not-alpha) (refl, refl)
+-- A position taken for phasing when the receiver came into phase: before printing has begun it prints nothing, whatever its RX is.
+pub settles-counted : (w : ℕ) → Quiet false (settled rq w)
+settles-counted w = (ap one (rq-prints-nothing w .0), rq-prints-nothing w .1)

@@ -1,7 +1,8 @@
--- The repetition count of every run from a fresh station.  R-096 to R-100
---     counted   for a fresh master, for a fresh slave, and for any station that starts with count 0 at a place other than Lost
+-- The repetition count, Ending's four and Stand-by, of every run from a fresh station.  R-072, R-084, R-085, R-096 to R-100
+--     counted   for a fresh master, for a fresh slave, and for any station that starts with count 0 at a place other than Lost and
+--               Ending
 -- Assumes nothing.
-use mathlib.Core.Path.{_≡_, refl, ap, sym, _∙_}
+use mathlib.Core.Path.{_≡_, refl, ap, sym, subst, _∙_}
 use mathlib.Core.Bool.{Bool, true, false, not, _&&_}
 use mathlib.Core.List.{List, [], _∷_}
 use Prim.Native.Nat.{ℕ, suc, _≤_}
@@ -13,6 +14,7 @@ use borrow.Author.Tests.{leb-true, leb-false, eq-eqb, ne-eqb}
 use Rattle.laws.specs.Choice.{if_then_else_}
 use Rattle.signals.specs.Numbers.{Answer, answered, refused, firstNot}
 use Rattle.mode_a.specs.declared.Words.{Words}
+use Rattle.mode_a.specs.declared.Place.the-variants.{StandBy}
 use Rattle.mode_a.specs.declared.Offer.{Offer}
 use Rattle.mode_a.specs.declared.Station.{Station}
 use Rattle.mode_a.specs.declared.Reply.{Reply}
@@ -20,22 +22,14 @@ use Rattle.mode_a.specs.Station.{freshMaster, freshSlave}
 use Rattle.mode_a.specs.Heard.{mayHold, heardOf}
 use Rattle.mode_a.specs.Rows.{rowOf}
 use Rattle.mode_a.specs.Step.{done, soundPlace, sound, offered, stepping, stationAfter}
-use Rattle.counts.specs.Runs.{Event, after, isLost, stays, uncounted, repetition, goesOn, inARow}
+use Rattle.counts.specs.Runs.{Event, after, isLost, stays, uncounted, repetition, goesOn, inARow, sentααα, alphasInARow}
 use Rattle.counts.specs.Counts.{Counted}
-use Rattle.counts.proofs.StepLaws.{Fact, step-fact, isRepeats}
+use Rattle.counts.proofs.StepLaws.{answers, Fact, step-fact, isRepeats}
+use Rattle.counts.proofs.EndLaws.{Total, totalOf, total-next, after-four, ending-total, standby-silent}
 
 -- an answer is what the row did
-answered-is : (s : Station) (b : Words) (o : Offer) (r : Reply) → stepping s b o ≡ answered r → r ≡ done s b o (rowOf (s .role) (s .place) (heardOf b))
-unfolding stepping
-answered-is s b o r e = go (sound s) (ltb (firstNot mayHold (offered o)) (length (offered o))) e
-  where
-    go : (p q : Bool) → _≡_ {A = Answer Reply} (if not p then refused 4 0 else if q then refused 3 (firstNot mayHold (offered o)) else answered (done s b o (rowOf (s .role) (s .place) (heardOf b)))) (answered r) → r ≡ done s b o (rowOf (s .role) (s .place) (heardOf b))
-    go false q e = let z : _≡_ {A = ℕ} 0 1 = cc in absurd (omega arith)
-    go true true e = let z : _≡_ {A = ℕ} 0 1 = cc in absurd (omega arith)
-    go true false e = cc
-
 fact-of : (s : Station) (b : Words) (o : Offer) (r : Reply) → stepping s b o ≡ answered r → Fact s (heardOf b) (rowOf (s .role) (s .place) (heardOf b)) r
-fact-of s b o r e = rw (answered-is s b o r e) (step-fact s b o (heardOf b))
+fact-of s b o r e = rw (answers s b o r e .is-done) (step-fact s b o (heardOf b))
 
 -- and so is the answer of the same station with count 0
 uncounted-is : (s : Station) (b : Words) (o : Offer) (r : Reply) → stepping s b o ≡ answered r → stepping (uncounted s) b o ≡ answered (done (uncounted s) b o (rowOf (s .role) (s .place) (heardOf b)))
@@ -111,7 +105,7 @@ for-good fresh run e l = go (stepping (after fresh run) (e .burst) (e .offer)) r
     go (answered r) p = fact-of (after fresh run) (e .burst) (e .offer) r p .stays-lost l .1
     go (refused n v) p = l
 
-module _ (fresh : Station) (start : fresh .count ≡ 0) (open-place : isLost (fresh .place) ≡ false) where
+module _ (fresh : Station) (start : fresh .count ≡ 0) (open-place : isLost (fresh .place) ≡ false) (none-sent : totalOf (fresh .place) ≡ 0) where
   kept-run : (run : List Event) → Kept (after fresh run) (inARow fresh run)
   unfolding after inARow
   kept-run [] =
@@ -123,6 +117,23 @@ module _ (fresh : Station) (start : fresh .count ≡ 0) (open-place : isLost (fr
           next (after fresh es) (inARow fresh es) k (e .burst) r (fact-of (after fresh es) (e .burst) (e .offer) r p) (repetition (after fresh es) e) (told-of (after fresh es) e r p)
       go k (refused n v) p = k
 
+  total-run : (run : List Event) → Total (after fresh run .place) (alphasInARow fresh run)
+  unfolding after alphasInARow
+  total-run [] = record { is = none-sent; four = omega (arith, none-sent) }
+  total-run (e ∷ es) = go (total-run es) (stepping (after fresh es) (e .burst) (e .offer)) refl
+    where
+      go : Total (after fresh es .place) (alphasInARow fresh es) → (a : Answer Reply) → stepping (after fresh es) (e .burst) (e .offer) ≡ a → Total (stationAfter (after fresh es) a .place) (goesOn a (sentααα a) (alphasInARow fresh es))
+      go k (answered r) p = total-next (after fresh es) (e .burst) (e .offer) r (alphasInARow fresh es) p k
+      go k (refused n v) p = k
+
+  standby-run : (run : List Event) (e : Event) → after fresh run .place ≡ StandBy → after fresh (e ∷ run) .place ≡ StandBy
+  unfolding after
+  standby-run run e n = go (stepping (after fresh run) (e .burst) (e .offer)) refl
+    where
+      go : (a : Answer Reply) → stepping (after fresh run) (e .burst) (e .offer) ≡ a → stationAfter (after fresh run) a .place ≡ StandBy
+      go (answered r) p = standby-silent (after fresh run) (e .burst) (e .offer) r p n .0
+      go (refused n′ v) p = n
+
   pub counted : (run : List Event) → Counted fresh run
   counted run =
       record {
@@ -132,10 +143,15 @@ module _ (fresh : Station) (start : fresh .count ≡ 0) (open-place : isLost (fr
         lost-by-the-32nd = λ e r p nl. by-32 (after fresh run) (inARow fresh run) (kept-run run) (e .burst) r (fact-of (after fresh run) (e .burst) (e .offer) r p) (repetition (after fresh run) e) (told-of (after fresh run) e r p) nl;
         lost-is-silent = λ e r p l. fact-of (after fresh run) (e .burst) (e .offer) r p .silent l;
         lost-for-good = for-good fresh run;
+        totals = λ x p. ending-total x (after fresh run .place) p ∙ total-run run .is;
+        four-at-most = subst (λ (n : ℕ). n ≤ 4) (total-run run .is) (total-run run .four);
+        standby-after-four = λ e r p n. after-four (after fresh run) (e .burst) (e .offer) r p (total-run run .is ∙ n);
+        standby-is-silent = λ e r p n. standby-silent (after fresh run) (e .burst) (e .offer) r p n .1;
+        standby-for-good = standby-run run;
       }
 
 pub master-counted : (run : List Event) → Counted freshMaster run
-master-counted = counted freshMaster refl refl
+master-counted = counted freshMaster refl refl refl
 
 pub slave-counted : (run : List Event) → Counted freshSlave run
-slave-counted = counted freshSlave refl refl
+slave-counted = counted freshSlave refl refl refl

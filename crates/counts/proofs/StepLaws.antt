@@ -1,10 +1,12 @@
 -- One step: it is a repetition exactly where the row repeats, and what that does to the count and to the place. Assumes nothing.
 use mathlib.Core.Path.{_≡_, refl, sym, _∙_}
-use mathlib.Core.Bool.{Bool, true, false}
+use mathlib.Core.Bool.{Bool, true, false, not, _&&_}
 use Prim.Native.Nat.{ℕ, _+_}
 use native.Mathlib.Omega.{arith}
-use lib.Dec.{leb}
+use lib.Dec.{leb, ltb}
+use lib.ListN.{length}
 use Rattle.laws.specs.Choice.{if_then_else_}
+use Rattle.signals.specs.Numbers.{Answer, answered, refused, firstNot}
 use Rattle.signals.specs.declared.Case.{Case}
 use Rattle.mode_a.specs.declared.Role.{Role}
 use Rattle.mode_a.specs.declared.Role.the-variants.{Master, Slave}
@@ -19,10 +21,10 @@ use Rattle.mode_a.specs.declared.Doing.{Doing}
 use Rattle.mode_a.specs.declared.Doing.the-variants.{Repeats, Goes, Takes, Receives, Opens, Accepts}
 use Rattle.mode_a.specs.declared.Reply.{Reply}
 use Rattle.mode_a.specs.Station.{silence}
-use Rattle.mode_a.specs.Heard.{First, Cs, Cs3, Rq, Else, Heard}
+use Rattle.mode_a.specs.Heard.{First, Cs, Cs3, Rq, Else, Heard, heardOf, mayHold}
 use Rattle.mode_a.specs.Over.{listenedAll}
 use Rattle.mode_a.specs.Rows.{rowOf, sending, turning, opening, endsAgain, ending, receiving, asking}
-use Rattle.mode_a.specs.Step.{done, takes, accepts, acceptsBy, isOver}
+use Rattle.mode_a.specs.Step.{done, takes, accepts, acceptsBy, isOver, offered, soundPlace, sound, stepping}
 use Rattle.counts.specs.Runs.{isLost, stays}
 
 abbrev pub isRepeats : Doing → Bool
@@ -33,8 +35,25 @@ isRepeats (Receives n) = false
 isRepeats Opens = false
 isRepeats (Accepts n) = false
 
-never : {A : Type 0} → true ≡ false → A
+pub never : {A : Type 0} → true ≡ false → A
 never e = let z : _≡_ {A = ℕ} 0 1 = cc in absurd (omega arith)
+
+-- An answer is what the row did, at a place and with an offer in order.
+pub record Answers (s : Station) (b : Words) (o : Offer) (r : Reply) : Type 0 where
+  pub is-done : r ≡ done s b o (rowOf (s .role) (s .place) (heardOf b))
+  pub is-sound : soundPlace (s .place) ≡ true
+  pub is-fine : ltb (firstNot mayHold (offered o)) (length (offered o)) ≡ false
+
+pub answers : (s : Station) (b : Words) (o : Offer) (r : Reply) → stepping s b o ≡ answered r → Answers s b o r
+unfolding stepping sound
+answers s b o r e =
+    go (leb (s .count) 31) (soundPlace (s .place)) (ltb (firstNot mayHold (offered o)) (length (offered o))) refl refl e
+  where
+    go : (c p q : Bool) → soundPlace (s .place) ≡ p → ltb (firstNot mayHold (offered o)) (length (offered o)) ≡ q → _≡_ {A = Answer Reply} (if not (c && p) then refused 4 0 else if q then refused 3 (firstNot mayHold (offered o)) else answered (done s b o (rowOf (s .role) (s .place) (heardOf b)))) (answered r) → Answers s b o r
+    go false p q i j e = let z : _≡_ {A = ℕ} 0 1 = cc in absurd (omega arith)
+    go true false q i j e = let z : _≡_ {A = ℕ} 0 1 = cc in absurd (omega arith)
+    go true true true i j e = let z : _≡_ {A = ℕ} 0 1 = cc in absurd (omega arith)
+    go true true false i j e = record { is-done = cc; is-sound = i; is-fine = j }
 
 -- what holds of a step from the place p that hears h and does d
 pub record Fact (s : Station) (h : Heard) (d : Doing) (r : Reply) : Type 0 where

@@ -1,5 +1,6 @@
--- 01, The station: "The 32nd makes it Lost and silent, with no offer taken. Then, and after every other step, the count is 0. Ending has its four instead."
--- R-096, R-097, R-098, R-099, R-100, as one statement about every run from a fresh station.
+-- 01, The station: "The 32nd makes it Lost and silent, with no offer taken. Then, and after every other step, the count is 0. Ending
+-- has its four instead." "Stand-by and Lost: silent for good, no offer taken."
+-- R-096, R-097, R-098, R-099, R-100, with R-072, R-084 and R-085, as one statement about every run from a fresh station.
 -- Assumes nothing.
 use mathlib.Core.Path.{_≡_}
 use mathlib.Core.Bool.{true, false, _&&_}
@@ -7,11 +8,13 @@ use mathlib.Core.List.{List, _∷_}
 use Prim.Native.Nat.{_≤_}
 use lib.Dec.{eqb}
 use Rattle.signals.specs.Numbers.{answered}
+use Rattle.mode_a.specs.declared.Ended.{Ended}
+use Rattle.mode_a.specs.declared.Place.the-variants.{Ending, StandBy}
 use Rattle.mode_a.specs.declared.Station.{Station}
 use Rattle.mode_a.specs.declared.Reply.{Reply}
 use Rattle.mode_a.specs.Station.{silence}
 use Rattle.mode_a.specs.Step.{stepping}
-use Rattle.counts.specs.Runs.{Event, after, isLost, repetition, inARow}
+use Rattle.counts.specs.Runs.{Event, after, isLost, repetition, inARow, alphasInARow}
 
 pub record Counted (fresh : Station) (run : List Event) : Type 0 where
   -- while the station is not Lost, its count is the number of repetitions in a row that the run ends in, 31 at most
@@ -25,3 +28,13 @@ pub record Counted (fresh : Station) (run : List Event) : Type 0 where
   pub lost-is-silent : (e : Event) (r : Reply) → stepping (after fresh run) (e .burst) (e .offer) ≡ answered r → isLost (r .station .place) ≡ true → (r .sent ≡ silence) × (r .printed ≡ silence) × (r .taken ≡ false)
   -- and once Lost it stays so
   pub lost-for-good : (e : Event) → isLost (after fresh run .place) ≡ true → isLost (after fresh (e ∷ run) .place) ≡ true
+  -- "Ending has its four instead"  R-071, R-072, R-100: at Ending ααα has been sent as often in a row as its total says
+  pub totals : (x : Ended) → after fresh run .place ≡ Ending x → x .total ≡ alphasInARow fresh run
+  -- never more than four times
+  pub four-at-most : alphasInARow fresh run ≤ 4
+  -- "if it has been sent four times, Stand-by, silent", whatever is heard
+  pub standby-after-four : (e : Event) (r : Reply) → stepping (after fresh run) (e .burst) (e .offer) ≡ answered r → alphasInARow fresh run ≡ 4 → (r .station .place ≡ StandBy) × (r .sent ≡ silence)
+  -- "silent for good, no offer taken"  R-084: at Stand-by it is silent, prints nothing and takes no offer
+  pub standby-is-silent : (e : Event) (r : Reply) → stepping (after fresh run) (e .burst) (e .offer) ≡ answered r → after fresh run .place ≡ StandBy → (r .sent ≡ silence) × (r .printed ≡ silence) × (r .taken ≡ false)
+  -- and stays there
+  pub standby-for-good : (e : Event) → after fresh run .place ≡ StandBy → after fresh (e ∷ run) .place ≡ StandBy

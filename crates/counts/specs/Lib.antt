@@ -1,5 +1,5 @@
--- 01, The station: the repetition count, defined from the steps of a run and not from the station's count.
---     Runs     a run of steps, and which of its steps are repetitions
---     Counts   what the count is, and what makes a station Lost
+-- 01, The station: the repetition count and Ending's four, defined from the steps of a run and not from what the station keeps.
+--     Runs     a run of steps, which of its steps are repetitions, and how often it sent ααα
+--     Counts   what the count is, what makes a station Lost, how often ααα is sent, and Stand-by
 pub mod Runs
 pub mod Counts

@@ -2,7 +2,7 @@
 -- neither changes place, nor confirms, nor accepts."  R-096
 --
 -- Whether a step is such a repetition is told from what was heard and from the place before it and the place that it leads to, and
--- does not depend on the count that the station keeps.
+-- does not depend on the count that the station keeps. How often ααα was sent is told from the bursts of the run.
 -- Assumes nothing.
 use mathlib.Core.Bool.{Bool, true, false, not, _&&_}
 use mathlib.Core.List.{List, [], _∷_}
@@ -17,8 +17,8 @@ use Rattle.mode_a.specs.declared.Place.the-variants.{Sending, Turning, Opening,
 use Rattle.mode_a.specs.declared.Offer.{Offer}
 use Rattle.mode_a.specs.declared.Station.{Station}
 use Rattle.mode_a.specs.declared.Reply.{Reply}
-use Rattle.mode_a.specs.Station.{same}
-use Rattle.mode_a.specs.Heard.{First, Cs, Cs3, Rq, Else, Heard, heardOf}
+use Rattle.mode_a.specs.Station.{ααα, same}
+use Rattle.mode_a.specs.Heard.{First, Cs, Cs3, Rq, Else, Heard, heardOf, isWords}
 use Rattle.mode_a.specs.Step.{stepping, stationAfter}
 
 -- what a station hears and is offered
@@ -102,12 +102,23 @@ leadsTo s e = stationAfter (uncounted s) (stepping (uncounted s) (e .burst) (e .
 abbrev pub repetition : Station → Event → Bool
 repetition s e = stays (s .place) (heardOf (e .burst)) (leadsTo s e)
 
--- how many repetitions in a row the run ends in; a refusal is no step and is passed over
+-- in a row: one more, or none; a refusal is no step and is passed over
 abbrev pub goesOn : Answer Reply → Bool → ℕ → ℕ
 goesOn (answered r) again k = if again then suc k else 0
 goesOn (refused n v) again k = k
 
+-- how many repetitions in a row the run ends in
 unfoldable pub inARow : Station → List Event → ℕ
 inARow s [] = 0
 inARow s (e ∷ es) =
     goesOn (stepping (after s es) (e .burst) (e .offer)) (repetition (after s es) e) (inARow s es)
+
+-- how many bursts ααα in a row the run ends in, by what was sent and not by the total that the station keeps  R-071, R-072, R-100
+abbrev pub sentααα : Answer Reply → Bool
+sentααα (answered r) = isWords (r .sent) ααα
+sentααα (refused n v) = false
+
+unfoldable pub alphasInARow : Station → List Event → ℕ
+alphasInARow s [] = 0
+alphasInARow s (e ∷ es) =
+    goesOn (stepping (after s es) (e .burst) (e .offer)) (sentααα (stepping (after s es) (e .burst) (e .offer))) (alphasInARow s es)

@@ -40,7 +40,7 @@ runOf k last now = if eqb k 0 || sameSignal last now then 1 else k + 1
 
 -- "Positions whose DX came before those four signals count as phasing."  R-114: at the fourth signal the three DX kept are RQ (after α the first of them is settled already).
 -- With another RX than α such a position settles as the signal RQ or as an error: nothing is printed either way, since printing has
--- not begun.
+-- not begun. That is `counts-as-phasing`, of every word (proofs/PhaseLaws.antt).
 -- After RQ an RX slot comes next, after α a DX slot. That step settles and prints nothing.
 abbrev pub isOne : Phasing → Bool
 isOne Phasing.One = true

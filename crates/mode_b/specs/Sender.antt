@@ -2,7 +2,7 @@
 -- Assumes nothing.
 use mathlib.Core.Path.{_≡_}
 use mathlib.Core.List.{List, [], _∷_, _++_}
-use Prim.Native.Nat.{ℕ, _+_}
+use Prim.Native.Nat.{ℕ, _+_, _*_, _<_}
 use lib.Dec.{eqb, ltb}
 use lib.ListN.{length, getD, replicate}
 use Rattle.laws.specs.Choice.{if_then_else_}
@@ -56,6 +56,21 @@ slotsFrom before last (p ∷ ps) = dxOf p ∷ rxOf before ∷ slotsFrom last p p
 
 unfoldable pub slotsOf : List ℕ → List ℕ
 slotsOf text = slotsFrom idle idle (positionsOf text)
+
+-- The same sentences one by one, of any list of positions and any list of slots. That they hold of every text is `sent-twice`, and
+-- that they leave one list of slots `sent-twice-unique` (proofs/SlotLaws.antt).
+--     dx            "Position t goes out first (DX) in slot 2t"                              R-102
+--     rx            "and again (RX) in slot 2t+5, after four other signals",                 R-102, R-110
+--                   where there is such a slot: "RX copies due later are not sent",
+--                   and those of the last two positions are
+--     before-0      "Before position 0, RX slots carry α": slots 1 and 3                     R-104
+--     last          "The last slot is number 2t+1, where t is the last position"             R-109
+pub record SentTwice (positions : List Position) (slots : List ℕ) : Type 0 where
+  pub two-slots-each : length slots ≡ 2 * length positions
+  pub dx : (t : ℕ) → t < length positions → getD slots (2 * t) 0 ≡ dxOf (getD positions t idle)
+  pub rx : (t : ℕ) → 2 * t + 5 < length slots → getD slots (2 * t + 5) 0 ≡ rxOf (getD positions t idle)
+  pub before-0 : (getD slots 1 0 ≡ alpha) × (getD slots 3 0 ≡ alpha)
+  pub last : (t : ℕ) → length positions ≡ t + 1 → length slots ≡ (2 * t + 1) + 1
 
 -- 01, Numbers returned, for the sender's call. "mode B slot 7, 3, 6"  R-134, R-135
 --     7   "over 8,192 signals for mode B or printing"                        "8,192"                 R-133

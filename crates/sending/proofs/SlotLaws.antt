@@ -12,32 +12,11 @@ use Rattle.laws.specs.Choice.{if_then_else_}
 use Rattle.signals.specs.Meaning.{trafficOf, alpha}
 use Rattle.signals.specs.Numbers.{Answer, answered, refused, firstNot}
 use Rattle.mode_b.specs.declared.Slot.{Slot}
-use Rattle.mode_b.specs.Sender.{Position, phasing, signal, idle, dxOf, rxOf, withBreaks, positionsOf, slotsFrom, slotsOf, slotting, Slots}
+use Rattle.mode_b.specs.Sender.{Position, phasing, signal, idle, dxOf, rxOf, withBreaks, positionsOf, slotsOf, slotting, Slots}
+use Rattle.mode_b.proofs.SlotLaws.{sent-twice}
 use Rattle.sending.specs.declared.At.{At}
 use Rattle.sending.specs.Places.{sentText, countOf, inGroup, atOf, byAt}
 use Rattle.sending.proofs.BreakLaws.{placeOf, placeIn, place-at, place-count}
-
--- two slots a position
-slots-length : (b l : Position) (ps : List Position) → length (slotsFrom b l ps) ≡ 2 * length ps
-unfolding slotsFrom
-slots-length b l [] = omega arith
-slots-length b l (p ∷ ps) = omega (arith, slots-length l p ps)
-
-slot-dx : (b l : Position) (ps : List Position) (t : ℕ) → t < length ps → getD (slotsFrom b l ps) (2 * t) 0 ≡ dxOf (getD ps t idle)
-unfolding slotsFrom
-slot-dx b l [] t h = absurd (omega arith)
-slot-dx b l (p ∷ ps) zero h = refl
-slot-dx b l (p ∷ ps) (suc t) h =
-    let i : 2 * suc t ≡ suc (suc (2 * t)) = omega arith in
-    rw i (slot-dx l p ps t (omega arith))
-
-slot-rx : (b l : Position) (ps : List Position) (t : ℕ) → t < length ps → getD (slotsFrom b l ps) (2 * t + 1) 0 ≡ rxOf (getD (b ∷ l ∷ ps) t idle)
-unfolding slotsFrom
-slot-rx b l [] t h = absurd (omega arith)
-slot-rx b l (p ∷ ps) zero h = refl
-slot-rx b l (p ∷ ps) (suc t) h =
-    let i : 2 * suc t + 1 ≡ suc (suc (2 * t + 1)) = omega arith in
-    rw i (slot-rx l p ps t (omega arith))
 
 -- what is behind the traffic positions is α, and so is what is behind the last
 idle-behind : (ps : List Position) (n q : ℕ) → getD (ps ++ replicate n idle) q idle ≡ getD ps q idle
@@ -88,30 +67,26 @@ module _ (text : List ℕ) where
       omega (arith, length-append (replicate 16 phasing ++ withBreaks 0 (sentText text)) (replicate 17 idle), length-append (replicate 16 phasing) (withBreaks 0 (sentText text)), place-count (sentText text), sent-length, length-replicate 16 phasing, length-replicate 17 idle)
 
   pub slots-count : length (slotsOf text) ≡ 2 * countOf (length text + 2)
-  unfolding slotsOf
-  slots-count = slots-length idle idle (positionsOf text) ∙ ap (λ (n : ℕ). 2 * n) positions-count
+  slots-count = sent-twice text .two-slots-each ∙ ap (λ (n : ℕ). 2 * n) positions-count
 
   -- the word of a slot
   module _ (t : ℕ) (h : t < countOf (length text + 2)) where
     pub dx-word : getD (slotsOf text) (2 * t) 0 ≡ dxOf (byAt text (atOf (length text + 2) t))
-    unfolding slotsOf
-    dx-word = slot-dx idle idle (positionsOf text) t (omega (arith, positions-count)) ∙ ap dxOf (position-at t)
+    dx-word = sent-twice text .dx t (omega (arith, positions-count)) ∙ ap dxOf (position-at t)
 
     pub rx-word : 2 ≤ t → getD (slotsOf text) (2 * t + 1) 0 ≡ rxOf (byAt text (atOf (length text + 2) (t - 2)))
-    unfolding slotsOf
     rx-word g =
-        let i : t ≡ suc (suc (t - 2)) = omega arith in
-        slot-rx idle idle (positionsOf text) t (omega (arith, positions-count))
-        ∙ ap (λ (t : ℕ). rxOf (getD (idle ∷ idle ∷ positionsOf text) t idle)) i
+        let i : 2 * t + 1 ≡ 2 * (t - 2) + 5 = omega arith in
+        ap (λ (m : ℕ). getD (slotsOf text) m 0) i
+        ∙ sent-twice text .rx (t - 2) (omega (arith, slots-count))
         ∙ ap rxOf (position-at (t - 2))
 
     pub first-rx-word : t < 2 → getD (slotsOf text) (2 * t + 1) 0 ≡ alpha
-    unfolding slotsOf
-    first-rx-word g = slot-rx idle idle (positionsOf text) t (omega (arith, positions-count)) ∙ two t g
+    first-rx-word g = two t g
       where
-        two : (t : ℕ) → t < 2 → rxOf (getD (idle ∷ idle ∷ positionsOf text) t idle) ≡ alpha
-        two zero g = refl
-        two (suc zero) g = refl
+        two : (t : ℕ) → t < 2 → getD (slotsOf text) (2 * t + 1) 0 ≡ alpha
+        two zero g = sent-twice text .before-0 .0
+        two (suc zero) g = sent-twice text .before-0 .1
         two (suc (suc t)) g = absurd (omega arith)
 
   -- the promise at each answer

@@ -10,7 +10,7 @@ ghost use Rattle.mode_a.specs.Heard.{firstOf};
 use mode_a::Place;
 use mode_a::Words;
 
-// The twelve kinds of burst. No row needs a finer one, and each pair is told apart by some place.
+// The twelve kinds of burst. No row needs a finer one (`heard-kind`), and each pair is told apart by some place (`kinds-apart`).
 // ORDER: a kind's place here is its column.
 pub enum Kind {
     // CS1, CS2 or CS3 first: a block (all three words traffic or β), or otherwise
