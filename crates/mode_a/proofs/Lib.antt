@@ -1,6 +1,6 @@
 -- Laws of mode A that the crates above cite.
 --     HeardLaws   what may stand in a block, by the signal's number; what a first word says
---     Unique      no second answer satisfies the promise of step
+--     Unique      no second answer satisfies the promise of step, of the fresh stations, or of the first burst
 --     Refuted     wrong stations of another shape, told from the right one
 pub mod HeardLaws
 pub mod Unique
