@@ -1,7 +1,7 @@
 -- Laws of mode A that the crates above cite.
 --     HeardLaws   what may stand in a block, by the signal's number; what a first word says
---     Unique      no second answer satisfies the promise of step
---     Refuted     wrong stations of another shape, told from the right one
+--     Unique      no second answer satisfies the promise of step, of the fresh stations, or of the first burst
+--     Refuted     wrong stations of another shape, told from the right one; wrong fresh stations and first bursts
 pub mod HeardLaws
 pub mod Unique
 pub mod Refuted

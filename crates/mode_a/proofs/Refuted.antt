@@ -10,24 +10,32 @@
 --     no-own-number-at-turning   Turning that asks for the number that its last block had
 --     no-order-3-4               a bad offer told before a bad station
 --     no-offer-unjudged          a text offer that is judged only where it would be taken
+-- Wrong fresh stations and first bursts, each by one field or word that is not as 01 has it, whatever the others are. The code of these
+-- calls is proved with no file, and a refused edit of it would tell no fact: so they are theorems.
+--     no-fresh-master-asking     a fresh master at Asking
+--     no-fresh-master-slave      a fresh master that is a slave
+--     no-fresh-slave-awaiting-2  a fresh slave that awaits 2
+--     no-fresh-slave-master      a fresh slave that is a master
+--     no-first-burst-cs2         a first burst that asks for block 2
+--     no-first-burst-thrice      CS1 three times: "a single signal is followed by two zero words"
 -- Assumes nothing.
 use mathlib.Core.Path.{_≡_, ap, sym, _∙_}
 use mathlib.Core.Bool.{Bool, true, false}
 use Prim.Native.Nat.{ℕ}
 use native.Mathlib.Omega.{arith}
 use Rattle.signals.specs.declared.Case.the-variants.{Letters}
-use Rattle.signals.specs.Meaning.{meaningOf, trafficOf, cs3}
+use Rattle.signals.specs.Meaning.{meaningOf, trafficOf, cs1, cs2, cs3}
 use Rattle.signals.specs.Numbers.{Answer, answered, refused, firstNot}
-use Rattle.mode_a.specs.declared.Role.the-variants.{Slave}
+use Rattle.mode_a.specs.declared.Role.the-variants.{Master, Slave}
 use Rattle.mode_a.specs.declared.Number.the-variants.{One, Two}
 use Rattle.mode_a.specs.declared.Words.{Words}
 use Rattle.mode_a.specs.declared.Place.{Place}
-use Rattle.mode_a.specs.declared.Place.the-variants.{Sending, Turning, Receiving, StandBy, Lost}
+use Rattle.mode_a.specs.declared.Place.the-variants.{Sending, Turning, Receiving, Asking, StandBy, Lost}
 use Rattle.mode_a.specs.declared.Offer.{Offer}
 use Rattle.mode_a.specs.declared.Station.{Station}
 use Rattle.mode_a.specs.declared.Reply.{Reply}
 use Rattle.mode_a.specs.declared.Stepped.{Stepped}
-use Rattle.mode_a.specs.Station.{words, single, silence, RQ×3, asksFor, freshSlave}
+use Rattle.mode_a.specs.Station.{words, single, silence, RQ×3, asksFor, freshMaster, freshSlave, firstBurst}
 use Rattle.mode_a.specs.Heard.{firstOf, mayHold, isBlock, isWords, heardOf}
 use Rattle.mode_a.specs.Over.{listened}
 use Rattle.mode_a.specs.Step.{trafficIn, done, sound, stepping, saidStepped, Steps}
@@ -119,3 +127,21 @@ no-order-3-4 s p = let z : _≡_ {A = ℕ} 3 4 = ap numberIn (p .0) in omega ari
 pub no-offer-unjudged : (r : Reply) → Steps (slaveAt StandBy 0) silence (Offer.Text (words 116 102 71)) (Stepped.Done r) → ⊥
 unfolding stepping sound mayHold trafficOf meaningOf firstNot
 no-offer-unjudged r p = let z : _≡_ {A = ℕ} 0 3 = ap numberIn (p .0) in omega arith
+
+pub no-fresh-master-asking : (s : Station) → s .place ≡ Asking → s ≡ freshMaster → ⊥
+no-fresh-master-asking s e p = apart cc
+
+pub no-fresh-master-slave : (s : Station) → s .role ≡ Slave → s ≡ freshMaster → ⊥
+no-fresh-master-slave s e p = apart cc
+
+pub no-fresh-slave-awaiting-2 : (s : Station) → s .place ≡ Receiving Two → s ≡ freshSlave → ⊥
+no-fresh-slave-awaiting-2 s e p = apart cc
+
+pub no-fresh-slave-master : (s : Station) → s .role ≡ Master → s ≡ freshSlave → ⊥
+no-fresh-slave-master s e p = apart cc
+
+pub no-first-burst-cs2 : (b : Words) → b .0 ≡ cs2 → b ≡ firstBurst → ⊥
+no-first-burst-cs2 b e p = let z : _≡_ {A = ℕ} 106 101 = sym e ∙ ap (λ (w : Words). w .0) p in omega arith
+
+pub no-first-burst-thrice : (b : Words) → b .1 ≡ cs1 → b ≡ firstBurst → ⊥
+no-first-burst-thrice b e p = let z : _≡_ {A = ℕ} 101 0 = sym e ∙ ap (λ (w : Words). w .1) p in omega arith

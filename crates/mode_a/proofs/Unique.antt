@@ -1,4 +1,5 @@
--- No second answer: the promises of `step`, `fresh_master` and `fresh_slave`, as their contracts cite them, leave one. Assumes nothing.
+-- No second answer: the promises of `step`, `fresh_master`, `fresh_slave` and `first_burst`, as their contracts cite them, leave one.
+-- Assumes nothing.
 use mathlib.Core.Path.{_≡_, refl, ap₂, sym, _∙_}
 use lib.Dec.{eqb}
 use Rattle.laws.specs.Choice.{if_then_else_}
@@ -9,7 +10,7 @@ use Rattle.mode_a.specs.declared.Offer.{Offer}
 use Rattle.mode_a.specs.declared.Station.{Station}
 use Rattle.mode_a.specs.declared.Reply.{Reply}
 use Rattle.mode_a.specs.declared.Stepped.{Stepped}
-use Rattle.mode_a.specs.Station.{freshMaster, freshSlave}
+use Rattle.mode_a.specs.Station.{freshMaster, freshSlave, firstBurst}
 use Rattle.mode_a.specs.Step.{saidStepped, handedBack, Steps}
 
 -- the answer, read back from 01's number and value and the station handed back
@@ -33,3 +34,6 @@ fresh-master-unique r r′ p q = unique p q
 
 pub fresh-slave-unique : (r r′ : Station) → r ≡ freshSlave → r′ ≡ freshSlave → r ≡ r′
 fresh-slave-unique r r′ p q = unique p q
+
+pub first-burst-unique : (r r′ : Words) → r ≡ firstBurst → r′ ≡ firstBurst → r ≡ r′
+first-burst-unique r r′ p q = unique p q

@@ -1,7 +1,7 @@
 // One station of mode A (01, The station; 001, 3.3 to 3.7): what it is made of. The step is `station::step`; its rules, place
 // by place, are `specs/Rows.antt` and `specs/Step.antt`.
 ghost use mathlib.Core.Path.{_≡_};
-ghost use Rattle.mode_a.specs.Station.{other, same, asksFor, freshMaster, freshSlave};
+ghost use Rattle.mode_a.specs.Station.{other, same, asksFor, freshMaster, freshSlave, firstBurst};
 ghost use Rattle.mode_a.specs.Heard.{mayHold};
 use signals::Case;
 
@@ -181,7 +181,8 @@ impl Station {
         }
     }
 
-    // "A fresh slave is Receiving, awaits 1, and its first burst is CS1": the caller sends it, CS1 0 0, before the first step.
+    // "A fresh slave is Receiving, awaits 1, and its first burst is CS1": the caller sends that burst, `first_burst`, before
+    // the first step.
     pub fn fresh_slave() -> Self
         ensures { λ r. ⌜ r ≡ freshSlave ⌝ }
     {
@@ -192,5 +193,12 @@ impl Station {
             case: Case::Letters,
             plus: false,
         }
+    }
+
+    // "its first burst is CS1" (R-094): CS1 0 0. It stands before the first step, so no step answers it, and it counts as no repetition.
+    pub fn first_burst() -> Words
+        ensures { λ r. ⌜ r ≡ firstBurst ⌝ }
+    {
+        Number::One.asks()
     }
 }

@@ -2,7 +2,7 @@
 --     SlotLaws    each position goes out twice, in slots 2t and 2t+5
 --     PhaseLaws   what counts as phasing when a receiver comes into phase
 --     Unique      no second answer satisfies the promise of slot, of receive, or of the fresh receiver
---     Refuted     wrong senders and receivers of another shape, told from the right ones
+--     Refuted     wrong senders and receivers of another shape, told from the right ones; wrong fresh receivers
 pub mod SlotLaws
 pub mod PhaseLaws
 pub mod Unique

@@ -4,22 +4,27 @@
 --     no-order-7-6-3         one that tells a slot past the last before a word that may not stand in the text
 --     no-printing-at-once    a receiver that prints from the first settled signal, and not from the first return or line feed
 --     no-last-lost           one that ends at two α in DX and prints nothing of the position before them
+-- Wrong fresh receivers. The code of that call is proved with no file, and a refused edit of it would tell no fact: so they are theorems.
+--     no-fresh-receiver-with-a-run   one whose search run is not 0, whichever its last signal is
+--     no-fresh-receiver-in-phase     one that is in phase, whatever words it waits with
 -- Assumes nothing.
 use mathlib.Core.Path.{_≡_, ap, sym, _∙_}
 use mathlib.Core.Bool.{Bool, true, false}
 use mathlib.Core.List.{List, [], _∷_}
-use Prim.Native.Nat.{ℕ}
+use Prim.Native.Nat.{ℕ, suc}
 use native.Mathlib.Omega.{arith}
 use Rattle.signals.specs.Units.{intactOf, onesOf}
 use Rattle.signals.specs.Meaning.{meaningOf, trafficOf}
 use Rattle.signals.specs.Numbers.{Answer, answered, refused, firstNot}
 use Rattle.mode_b.specs.declared.Slot.{Slot}
-use Rattle.mode_b.specs.declared.Hearing.the-variants.{InPhase}
+use Rattle.mode_b.specs.declared.Phasing.{Phasing}
+use Rattle.mode_b.specs.declared.Phase.{Phase}
+use Rattle.mode_b.specs.declared.Hearing.the-variants.{Searching, InPhase}
 use Rattle.mode_b.specs.declared.Receiver.{Receiver}
 use Rattle.mode_b.specs.declared.Heard.{Heard}
 use Rattle.mode_b.specs.declared.Received.{Received}
 use Rattle.mode_b.specs.Sender.{withBreaks, positionsOf, slotsFrom, slotsOf, slotting, saidSlot, Slots}
-use Rattle.mode_b.specs.Receiver.{settled, settledAlone, heardRx, heardDx, receiving, Receives}
+use Rattle.mode_b.specs.Receiver.{freshReceiver, settled, settledAlone, heardRx, heardDx, receiving, Receives}
 
 abbrev numberIn : Answer ℕ → ℕ
 numberIn (answered w) = 0
@@ -51,3 +56,9 @@ no-printing-at-once h e p = let z : _≡_ {A = ℕ} 86 0 = sym e ∙ ap printedI
 pub no-last-lost : (h : Heard) → h .printed ≡ 0 → Receives (waiting true 86 15 true) 15 (Received.Done h) → ⊥
 unfolding heardDx settledAlone intactOf onesOf trafficOf meaningOf
 no-last-lost h e p = let z : _≡_ {A = ℕ} 0 86 = sym e ∙ ap printedIn (p .0) in omega arith
+
+pub no-fresh-receiver-with-a-run : (r : Receiver) (run : ℕ) (last : Phasing) → r .hearing ≡ Searching (suc run) last → r ≡ freshReceiver → ⊥
+no-fresh-receiver-with-a-run r run last e p = let z : _≡_ {A = ℕ} 0 1 = cc in omega arith
+
+pub no-fresh-receiver-in-phase : (r : Receiver) (phase : Phase) → r .hearing ≡ InPhase phase → r ≡ freshReceiver → ⊥
+no-fresh-receiver-in-phase r phase e p = let z : _≡_ {A = ℕ} 0 1 = cc in omega arith

@@ -1,6 +1,7 @@
 -- `station::step` meets its contract: the refusals in 01's order, and else what the row says, by the table and its actions.
 -- Assumes nothing.
 use mathlib.Core.Path.{ap, sym, _∙_}
+use native.Mathlib.Omega.{arith}
 use borrow.Author.Tests.{not-true, not-false}
 use Rattle.mode_a.specs.Step.{done}
 use Rattle.table.specs.declared.Action.{Action}
@@ -34,7 +35,7 @@ bad-offer-requires c κs = search needs
 returns-2 : tie.Need-returns-2
 returns-2 c =
     let a = c .before .before .before .before in
-    bad-word (a .args .s) (a .args .burst) (a .args .offer) (sym (c .before .before .before .sound .ensures) ∙ not-false _ (c .before .before .if1 .left)) (c .before .bad-offer .result) (c .before .bad-offer .ensures) (c .if2 .taken)
+    bad-word (a .args .s) (a .args .burst) (a .args .offer) (sym (c .before .before .before .sound .ensures) ∙ not-false _ (c .before .before .if1 .left)) (c .before .bad-offer .result) (c .before .bad-offer .ensures) (omega (arith, c .if2 .taken))
 
 kind-of-requires : tie.Need-kind-of-requires
 kind-of-requires c κs = search needs

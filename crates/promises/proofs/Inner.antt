@@ -1,0 +1,61 @@
+-- No second answer: the promises of the inner functions (docs/PROMISES.md), as their contracts cite them, leave one.
+-- Assumes nothing.
+use mathlib.Core.Path.{_≡_, subst}
+use mathlib.Core.Bool.{Bool}
+use mathlib.Core.List.{List}
+use Prim.Native.Nat.{ℕ, _<_}
+use lib.ListN.{length}
+use lib.Seq.{ext-getD}
+use Rattle.laws.proofs.Unique.{unique}
+use Rattle.signals.specs.declared.Row.{Row}
+use Rattle.signals.specs.Meaning.{trafficOf}
+use Rattle.signals.specs.Rows.{row, Rows}
+use Rattle.mode_a.specs.declared.Role.{Role}
+use Rattle.mode_a.specs.declared.Number.{Number}
+use Rattle.mode_a.specs.declared.Words.{Words}
+use Rattle.mode_a.specs.declared.Place.{Place}
+use Rattle.mode_a.specs.declared.Doing.{Doing}
+use Rattle.mode_a.specs.Station.{other, same, asksFor}
+use Rattle.mode_a.specs.Heard.{mayHold}
+use Rattle.mode_a.specs.Rows.{requests}
+use Rattle.table.specs.declared.Kind.{Kind}
+use Rattle.table.specs.declared.Action.{Action}
+use Rattle.table.specs.Kinds.{kindOf}
+use Rattle.table.specs.Actions.{actionOf}
+use Rattle.moves.specs.Moves.{doingOf}
+
+-- `signals::rows`: that there are 35 rows is the answer's type, `[Row; 35]`, and `Rows` says what each is
+pub rows-unique : (r r′ : List Row) → length r ≡ 35 → length r′ ≡ 35 → Rows r → Rows r′ → r ≡ r′
+rows-unique r r′ n n′ p q =
+    ext-getD (row 0 0 0) r r′ (unique n n′) (λ at h. unique (p at (subst (λ k. at < k) n h)) (q at (subst (λ k. at < k) n h)))
+
+-- `signals::is_traffic`
+pub is-traffic-unique : (w : ℕ) (r r′ : Bool) → r ≡ trafficOf w → r′ ≡ trafficOf w → r ≡ r′
+is-traffic-unique w r r′ p q = unique p q
+
+-- `mode_a::may_hold`, and the functions of `Number`
+pub may-hold-unique : (w : ℕ) (r r′ : Bool) → r ≡ mayHold w → r′ ≡ mayHold w → r ≡ r′
+may-hold-unique w r r′ p q = unique p q
+
+pub other-unique : (n r r′ : Number) → r ≡ other n → r′ ≡ other n → r ≡ r′
+other-unique n r r′ p q = unique p q
+
+pub same-unique : (n m : Number) (r r′ : Bool) → r ≡ same n m → r′ ≡ same n m → r ≡ r′
+same-unique n m r r′ p q = unique p q
+
+pub asks-unique : (n : Number) (r r′ : Words) → r ≡ asksFor n → r′ ≡ asksFor n → r ≡ r′
+asks-unique n r r′ p q = unique p q
+
+-- `table::kind_of`, `table::action_at`
+pub kind-of-unique : (b : Words) (r r′ : Kind) → r ≡ kindOf b → r′ ≡ kindOf b → r ≡ r′
+kind-of-unique b r r′ p q = unique p q
+
+pub action-at-unique : (place : Place) (kind : Kind) (r r′ : Action) → r ≡ actionOf place kind → r′ ≡ actionOf place kind → r ≡ r′
+action-at-unique place kind r r′ p q = unique p q
+
+-- `moves::doing`, `moves::requests`
+pub doing-unique : (action : Action) (role : Role) (place : Place) (r r′ : Doing) → r ≡ doingOf action role place → r′ ≡ doingOf action role place → r ≡ r′
+doing-unique action role place r r′ p q = unique p q
+
+pub requests-unique : (role : Role) (r r′ : Words) → r ≡ requests role → r′ ≡ requests role → r ≡ r′
+requests-unique role r r′ p q = unique p q
