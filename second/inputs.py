@@ -1,6 +1,6 @@
 """Inputs for second/compare: valid, damaged and hostile, long and short.
 
-cases(NAME, seed, slots) gives the same list each time it is asked.
+cases(NAME, seed) gives the same list each time it is asked.
 """
 
 import random
@@ -34,12 +34,9 @@ NAMED = [CS1, CS2, CS3, RQ, ALPHA, BETA, FIGURES, LETTERS, PLUS, QUERY,
          CARRIAGE_RETURN, LINE_FEED, 0, 127, 128 + ALPHA, 255]
 
 
-def cases(name, seed, slots):
-    """The inputs of one program.  slots: whether `calls` may get S records."""
-    draw = random.Random("%s %d" % (name, seed))
-    if name == "calls":
-        return calls_cases(draw, slots)
-    return MAKERS[name](draw)
+def cases(name, seed):
+    """The inputs of one program."""
+    return MAKERS[name](random.Random("%s %d" % (name, seed)))
 
 
 def slowly(about, data):
@@ -722,7 +719,7 @@ def steps_cases(draw):
 
 # --- calls ---
 
-CALLS_IN_A_CASE = 400
+CALLS_IN_A_CASE = 800
 
 
 def low_first(value, length):
@@ -874,10 +871,104 @@ def slot_records(draw):
         yield slot_record(draw.randrange(2 * len(words) + 80), words)
 
 
-def hostile_tails(draw, slots):
+def meaning_records():
+    for byte in WORDS:
+        yield b"M" + bytes([byte])
+
+
+def receive_record(draw, *, run=None, last=None, dx=None, following=None,
+                   printing=None, word):
+    """An R record.  Searching where a run is given, else in phase.  Only the
+    lowest bit of a flag counts, so the rest of its byte is drawn at random; so
+    are the fields of the other state and the one that is kept."""
+    fields = draw.choices(WORDS, k=10)
+
+    def flag(index, value):
+        fields[index - 1] = (fields[index - 1] & 254) + value
+
+    flag(1, 0 if run is not None else 1)
+    if run is not None:
+        fields[1] = run
+    if last is not None:
+        flag(3, last)
+    if dx is not None:
+        fields[3:6] = dx
+    if following is not None:
+        flag(7, following)
+    if printing is not None:
+        flag(8, printing)
+    fields[9] = word
+    return b"R" + bytes(fields)
+
+
+# What a receiver may hear or hold, each sort of it: phasing signals, the other
+# service signal, what begins printing, shifts, other traffic, damage of each
+# sort (among it alpha and RQ with bit 7 set), and the error mark.
+IN_MODE_B = [ALPHA, RQ, BETA, CARRIAGE_RETURN, LINE_FEED, LETTERS, 71, 86, 0,
+             127, 128 + ALPHA, 128 + RQ, 255]
+DX_NEXT, RX_NEXT = 0, 1
+
+
+def receive_records(draw):
+    # The search: each run with each word, and runs that no search comes to.
+    for run in (0, 1, 2, 3):
+        for last in (0, 1):
+            for word in WORDS:
+                yield receive_record(draw, run=run, last=last, word=word)
+    for run in (4, 5, 255):
+        for last in (0, 1):
+            for word in IN_MODE_B:
+                yield receive_record(draw, run=run, last=last, word=word)
+    for run in WORDS:
+        for word in (ALPHA, RQ, draw.choice(WORDS)):
+            yield receive_record(draw, run=run, last=draw.randrange(2), word=word)
+    # In phase, DX next: the word heard, the one before it and the one that
+    # waits, each of each sort.
+    for printing in (0, 1):
+        for middle in IN_MODE_B:
+            for newest in IN_MODE_B:
+                for word in (ALPHA, RQ, LINE_FEED, draw.choice(IN_MODE_B)):
+                    yield receive_record(
+                        draw, dx=(draw.choice(WORDS), middle, newest),
+                        following=DX_NEXT, printing=printing, word=word)
+    # Two alpha in DX, with every word that may wait.
+    for printing in (0, 1):
+        for waiting in WORDS:
+            yield receive_record(draw, dx=(draw.choice(WORDS), waiting, ALPHA),
+                                 following=DX_NEXT, printing=printing, word=ALPHA)
+    # In phase, RX next: both copies of each sort; and each of the 256 words as
+    # either copy.
+    for printing in (0, 1):
+        for dx in IN_MODE_B:
+            for rx in IN_MODE_B:
+                for _ in range(2):
+                    rest = draw.choices(IN_MODE_B, k=2)
+                    yield receive_record(draw, dx=(dx, rest[0], rest[1]),
+                                         following=RX_NEXT, printing=printing,
+                                         word=rx)
+    for word in WORDS:
+        for other in (word, ALPHA, RQ, 0, draw.choice(TRAFFIC)):
+            for dx, rx in ((word, other), (other, word)):
+                rest = draw.choices(WORDS, k=2)
+                yield receive_record(draw, dx=(dx, rest[0], rest[1]),
+                                     following=RX_NEXT,
+                                     printing=draw.choice((0, 1, 1)), word=rx)
+    # Bytes of any value everywhere.
+    for number in range(2500):
+        fields = draw.choices(WORDS, k=10)
+        if number % 2 == 0:
+            fields[1] %= 5
+            fields[9] = draw.choice(IN_MODE_B)
+        yield b"R" + bytes(fields)
+
+
+KINDS = b"EPSMR"
+
+
+def hostile_tails(draw):
     """What ends the program: bad kinds, rooms, lengths, and cut records."""
-    kinds = [byte for byte in WORDS if byte not in b"EPS"]
-    for byte in draw.sample(kinds, 12) + list(b"eps"):
+    kinds = [byte for byte in WORDS if byte not in KINDS]
+    for byte in draw.sample(kinds, 12) + list(KINDS.lower()):
         yield "kind %d" % byte, bytes([byte]) + text_record(b"E", 0, 9, b"AB")
     heads = [b"E", b"P"]
     for head in heads:
@@ -889,27 +980,28 @@ def hostile_tails(draw, slots):
         whole = text_record(head, 1, 5, bytes([71] * 6))
         for length in range(1, len(whole)):
             yield "record cut to %d" % length, whole[:length]
-    if slots:
-        for length in (8194, 65535):
-            whole = b"S" + low_first(5, 4) + low_first(length, 2)
-            yield "length %d" % length, whole + bytes([71]) * length
-        whole = slot_record(5, [71] * 4)
+    for length in (8194, 65535):
+        whole = b"S" + low_first(5, 4) + low_first(length, 2)
+        yield "length %d" % length, whole + bytes([71]) * length
+    for whole in (slot_record(5, [71] * 4), b"M" + bytes([71]),
+                  receive_record(draw, run=3, last=1, word=ALPHA),
+                  receive_record(draw, printing=1, word=71)):
         for length in range(1, len(whole)):
             yield "record cut to %d" % length, whole[:length]
 
 
-def calls_cases(draw, slots):
-    records = list(encode_records(draw)) + list(print_records(draw))
-    if slots:
-        records.extend(slot_records(draw))
+def calls_cases(draw):
+    records = (list(encode_records(draw)) + list(print_records(draw))
+               + list(slot_records(draw)) + list(meaning_records())
+               + list(receive_records(draw)))
     draw.shuffle(records)
     short = [one for one in records if len(one) < 40]
-    out = [quickly("empty", b""), slowly("6 records", b"".join(short[:6])),
-           slowly("4 records and a bad one", b"".join(short[6:10]) + b"?")]
+    out = [quickly("empty", b""), slowly("12 records", b"".join(short[:12])),
+           slowly("8 records and a bad one", b"".join(short[12:20]) + b"?")]
     for start in range(0, len(records), CALLS_IN_A_CASE):
         out.append(quickly("records from %d on" % start,
                            b"".join(records[start:start + CALLS_IN_A_CASE])))
-    for about, tail in hostile_tails(draw, slots):
+    for about, tail in hostile_tails(draw):
         good = b"".join(draw.choices(short, k=draw.choice((0, 1, 5))))
         out.append(quickly(about, good + tail))
     return out
@@ -922,6 +1014,7 @@ MAKERS = {
     "send": send_cases,
     "receive": receive_cases,
     "steps": steps_cases,
+    "calls": calls_cases,
 }
 
-NAMES = ("hear", "encode", "print", "send", "receive", "steps", "calls")
+NAMES = tuple(MAKERS)

@@ -718,6 +718,107 @@ def calls_records():
         assert programs.calls(good + tail + good) == (lines, bad)
 
 
+def meaning_records():
+    data = b"".join(b"M" + bytes([byte]) for byte in range(256))
+    lines = programs.calls(data)[0].decode().splitlines()
+    assert len(lines) == 256
+    for byte, line in enumerate(lines):
+        number, intact = line.split(" ")
+        # 01: below 128 and exactly four ones, counted here unit by unit.
+        ones = sum(byte >> bit & 1 for bit in range(8))
+        assert intact == ("1" if byte < 128 and ones == 4 else "0")
+        assert (number == "0") == (intact == "0")
+    told = {71: "1", 86: "5", 101: "12", 89: "14", 106: "32", 15: "33",
+            51: "34", 102: "35"}
+    for byte, number in told.items():
+        assert lines[byte] == number + " 1"
+    for byte in (0, 127, 199, 255):
+        assert lines[byte] == "0 0"
+    assert programs.calls(b"M") == (b"", b"bad record at 0\n")
+    assert programs.calls(b"MGM") == (b"1 1\n", b"bad record at 2\n")
+
+
+def stepped(*fields):
+    """The line of an `R` record with these ten bytes behind its kind."""
+    assert len(fields) == 10
+    output, error = programs.calls(b"R" + bytes(fields))
+    assert error == b"" and output.endswith(b"\n")
+    return output.decode()[:-1]
+
+
+def receive_records():
+    # The lines worked in docs/FORMATS.md.
+    assert stepped(1, 0, 0, 71, 72, 15, 1, 1, 0, 71) == "phase 0 72 15 dx 1 0 | 71"
+    assert stepped(0, 3, 1, 0, 0, 0, 0, 0, 0, 15) == "phase 0 102 102 dx 0 0 | 0"
+    assert stepped(0, 4, 0, 0, 0, 0, 0, 0, 0, 15) == "refused 4 0"
+    # Refusal 4 for every run over 3, whatever is heard; not in phase.
+    for run in range(256):
+        for last in (0, 1):
+            for word in (ALPHA, RQ, E, 0):
+                line = stepped(0, run, last, 1, 1, 1, 1, 1, 1, word)
+                assert (line == "refused 4 0") == (run > 3)
+        assert stepped(1, run, 0, E, E, E, 1, 1, 9, E).startswith("phase ")
+    # The search.
+    assert stepped(0, 0, 1, 0, 0, 0, 0, 0, 0, RQ) == "searching 1 RQ | 0"
+    assert stepped(0, 0, 0, 0, 0, 0, 0, 0, 0, RQ) == "searching 1 RQ | 0"
+    assert stepped(2, 1, 1, 0, 0, 0, 0, 0, 0, ALPHA) == "searching 2 alpha | 0"
+    assert stepped(0, 3, 0, 0, 0, 0, 0, 0, 0, ALPHA) == "searching 1 alpha | 0"
+    assert stepped(0, 3, 1, 0, 0, 0, 0, 0, 0, E) == "searching 0 none | 0"
+    assert stepped(0, 3, 0, 0, 0, 0, 0, 0, 0, RQ) == "phase 102 102 102 rx 0 0 | 0"
+    # In phase, next DX: the word waits, the oldest of the three is settled.
+    assert stepped(1, 9, 9, 9, A, E, 0, 0, 9, L) == "phase %d %d %d rx 0 0 | 0" % (
+        A, E, L)
+    assert stepped(1, 0, 0, 9, A, ALPHA, 0, 1, 0, ALPHA) == (
+        "searching 0 none | %d" % A)
+    assert stepped(1, 0, 0, 9, 0, ALPHA, 0, 1, 0, ALPHA) == (
+        "searching 0 none | 255")
+    assert stepped(1, 0, 0, 9, 0, ALPHA, 0, 0, 0, ALPHA) == (
+        "searching 0 none | 0")
+    assert stepped(1, 0, 0, ALPHA, ALPHA, A, 0, 1, 0, ALPHA).startswith("phase ")
+    # In phase, next RX: the oldest of the three is settled.
+    assert stepped(1, 0, 0, LINE_FEED, A, E, 1, 0, 0, 255) == (
+        "phase 0 %d %d dx 1 0 | %d" % (A, E, LINE_FEED))
+    assert stepped(1, 0, 0, A, A, E, 1, 0, 0, A) == "phase 0 %d %d dx 0 0 | 0" % (A, E)
+    assert stepped(1, 0, 0, A, A, E, 1, 1, 0, E).endswith(" | 255")
+    assert stepped(1, 0, 0, RQ, A, E, 1, 1, 0, ALPHA).endswith(" | 0")
+    assert stepped(1, 0, 0, ALPHA, A, E, 1, 1, 0, RQ).endswith(" | 255")
+    assert stepped(1, 0, 0, BETA, A, E, 1, 1, 0, 0).endswith(" | 0")
+
+
+def receive_records_run_on():
+    """A run of `R` records, each written from the line before it, prints what
+    the receiver prints that runs by itself."""
+    draw = random.Random(6)
+    for _ in range(40):
+        sent = broadcast.slots(draw.choices(TRAFFIC + HEAD, k=draw.randrange(120)))
+        words = [draw.choice(range(256)) if draw.random() < 0.1 else word
+                 for word in sent + sent[draw.randrange(9):]]
+        out = []
+        fields = [0] * 9
+        for word in words:
+            receiver, _, signal = stepped(*(fields + [word])).partition(" | ")
+            if signal != "0":
+                out.append(int(signal))
+            told = receiver.split(" ")
+            if told[0] == "searching":
+                fields = [0, int(told[1]), told[2] == "RQ"] + draw.choices(
+                    range(256), k=6)
+            else:
+                fields = [1] + draw.choices(range(256), k=2) + [
+                    int(number) for number in told[1:4]] + [
+                    told[4] == "rx", int(told[5]), draw.randrange(256)]
+        assert out == received(words)[0]
+
+
+def receive_records_cut():
+    record = b"R" + bytes([1, 0, 0, 71, 72, 15, 1, 1, 0, 71])
+    line = b"phase 0 72 15 dx 1 0 | 71\n"
+    assert programs.calls(record * 2) == (line * 2, b"")
+    for length in range(1, 11):
+        assert programs.calls(record + record[:length]) == (
+            line, b"bad record at 11\n")
+
+
 TESTS = [
     code_examples, code_all_256,
     encode_examples, encode_corners, print_corners, text_round_trip,
@@ -727,7 +828,8 @@ TESTS = [
     sender_examples, sender_corners, search_is_last_four, lock_either_way,
     lock_at_a_break, end_of_reception, settling, perfect_copy,
     hear_example, words_in_and_out, letter_through_all, steps_records,
-    calls_records,
+    calls_records, meaning_records, receive_records, receive_records_run_on,
+    receive_records_cut,
 ]
 
 
