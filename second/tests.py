@@ -1,8 +1,12 @@
 #!/usr/bin/env python3
 """Tests of the second program by itself: paper 01's worked examples, the
-corners of its rules, and what demand 3 asks of two stations.  No proved
+corners of its rules, and what demand 3 asks of two stations; and that
+second/compare does not pass where there is nothing to compare.  No proved
 program is run here; second/compare does that."""
 
+import importlib.machinery
+import importlib.util
+import os
 import random
 import sys
 import traceback
@@ -10,6 +14,7 @@ import traceback
 sys.dont_write_bytecode = True
 
 import broadcast  # noqa: E402
+import inputs  # noqa: E402
 import programs  # noqa: E402
 import signals  # noqa: E402
 import station as mode_a  # noqa: E402
@@ -819,6 +824,64 @@ def receive_records_cut():
             line, b"bad record at 11\n")
 
 
+# --- second/compare ---
+
+def load_compare():
+    path = os.path.join(os.path.dirname(os.path.abspath(__file__)), "compare")
+    loader = importlib.machinery.SourceFileLoader("compare", path)
+    module = importlib.util.module_from_spec(
+        importlib.util.spec_from_loader("compare", loader))
+    loader.exec_module(module)
+    return module
+
+
+compare = load_compare()
+COMPARED = ["encode", "print", "send", "receive", "hear", "steps", "calls"]
+
+
+def compare_names_all_programs():
+    assert sorted(compare.LEAST) == sorted(COMPARED) == sorted(programs.PROGRAMS)
+    assert sorted(inputs.NAMES) == sorted(COMPARED)
+    assert all(compare.EXCEPTIONS.values())
+    listed = COMPARED + sorted(compare.EXCEPTIONS)
+    faults = compare.faults_of_the_list
+    assert faults(listed, listed, COMPARED) == []
+    # One gone from crates.txt, whether or not its directory is there.
+    for gone in listed:
+        rest = [name for name in listed if name != gone]
+        for on_disk in (rest, listed):
+            told = faults(rest, on_disk, COMPARED)
+            assert len(told) == 1 and told[0].startswith(gone + ": MISSING")
+    assert len(faults([], [], COMPARED)) == len(listed)
+    # One without inputs.
+    for gone in COMPARED:
+        told = faults(listed, listed, [name for name in COMPARED if name != gone])
+        assert len(told) == 1 and told[0].startswith(gone + ": NOT COMPARED")
+    # One that nobody knows, listed or only on disk.
+    for more in (listed + ["fax"], listed):
+        told = faults(more, listed + ["fax"], COMPARED)
+        assert len(told) == 1 and told[0].startswith("fax: NOT COMPARED")
+
+
+def compare_counts_inputs():
+    for name, least in compare.LEAST.items():
+        assert len(least) > 1 and all(amount > 0 for amount in least.values())
+        # Nothing at all, and as many inputs as are asked with nothing in them.
+        assert len(compare.shortages(name, [])) == len(least)
+        empty = [inputs.quickly("empty", b"")] * least["inputs"]
+        assert len(compare.shortages(name, empty)) == len(least) - 1
+    # Without the inputs of one kind of `calls`.
+    all_cases = inputs.cases("calls", compare.GATE_SEED)
+    assert compare.shortages("calls", all_cases) == []
+    for kind in compare.CALL_KINDS:
+        without = [case._replace(data=b"".join(
+            case.data[first:behind]
+            for first, behind in compare.call_records(case.data)
+            if case.data[first:first + 1] != kind)) for case in all_cases]
+        told = compare.shortages("calls", without)
+        assert len(told) == 1 and "TOO FEW %s" % kind.decode() in told[0]
+
+
 TESTS = [
     code_examples, code_all_256,
     encode_examples, encode_corners, print_corners, text_round_trip,
@@ -830,6 +893,7 @@ TESTS = [
     hear_example, words_in_and_out, letter_through_all, steps_records,
     calls_records, meaning_records, receive_records, receive_records_run_on,
     receive_records_cut,
+    compare_names_all_programs, compare_counts_inputs,
 ]
 
 
