@@ -1,6 +1,10 @@
 """Inputs for second/compare: valid, damaged and hostile, long and short.
 
-cases(NAME, seed) gives the same list each time it is asked.
+    inputs_for(NAME, seed)   the inputs of a program as bytes, for any caller
+    cases(NAME, seed)        the same with what each one tries
+    NAMES, GATE_SEED         the programs, and the seed of the gate
+
+Both give the same list each time they are asked.
 """
 
 import random
@@ -13,12 +17,14 @@ import text
 from refusal import Refused
 from signals import (ALPHA, BETA, CARRIAGE_RETURN, CS1, CS2, CS3, FIGURES,
                      LETTERS, LINE_FEED, MEANING, PLUS, QUERY, RQ, is_traffic)
-from station import (ASKING, OPENING, RECEIVING, SENDING, TURNING, LOST,
-                     STANDBY)
+from station import (ASKING, ENDING, LOST, OPENING, RECEIVING, SENDING, STANDBY,
+                     TURNING)
 
 # about: what the input tries, for the report of a difference.
 # slowly: written to the program a byte at a time, so that it meets short reads.
 Case = namedtuple("Case", "about data slowly")
+
+GATE_SEED = 625
 
 WORDS = list(range(256))
 INTACT = [word for word in WORDS if MEANING[word] != 0]
@@ -37,6 +43,11 @@ NAMED = [CS1, CS2, CS3, RQ, ALPHA, BETA, FIGURES, LETTERS, PLUS, QUERY,
 def cases(name, seed):
     """The inputs of one program."""
     return MAKERS[name](random.Random("%s %d" % (name, seed)))
+
+
+def inputs_for(name, seed=GATE_SEED):
+    """The inputs of one program, each all of its standard input."""
+    return [case.data for case in cases(name, seed)]
 
 
 def slowly(about, data):
@@ -393,11 +404,13 @@ def single(word):
     return (word, 0, 0)
 
 
+IN_BLOCK_MORE = IN_BLOCK + [BETA] * 6 + [FIGURES, PLUS, PLUS, QUERY, QUERY,
+                                         LETTERS]
+
+
 def block(draw):
     """A block a slave accepts, with shifts, + and ? well among its signals."""
-    return tuple(draw.choices(IN_BLOCK + [BETA] * 6 + [FIGURES, PLUS, PLUS,
-                                                       QUERY, QUERY, LETTERS],
-                              k=3))
+    return tuple(draw.choices(IN_BLOCK_MORE, k=3))
 
 
 def any_burst(draw):
@@ -574,9 +587,16 @@ def hear_cases(draw):
 STEPS_IN_A_CASE = 20000
 
 
+# For blocks, with what an over is made of well among it; the first word of a
+# block that is no control signal.
+OVER_PARTS = [PLUS, QUERY, FIGURES, BETA] * 4
+BLOCK_FIRST = [word for word in IN_BLOCK
+               if word not in (CS1, CS2, CS3)] + OVER_PARTS
+BLOCK_REST = IN_BLOCK + OVER_PARTS
+
+
 def burst_of_kind(draw, kind):
     """The kinds of burst of docs/DECISIONS.md, each drawn at random."""
-    others = [word for word in IN_BLOCK if word not in (CS1, CS2, CS3)]
     if kind < 6:
         first = (CS1, CS2, CS3)[kind // 2]
         if kind % 2 == 0:
@@ -590,8 +610,7 @@ def burst_of_kind(draw, kind):
         return (RQ,) + draw.choice(((0, 0), (RQ, 0), (0, RQ), (71, 71),
                                     tuple(draw.choices(WORDS, k=2))))
     if kind == 8:
-        return (draw.choice(others + [PLUS, QUERY, FIGURES, BETA] * 4),) + tuple(
-            draw.choices(IN_BLOCK + [PLUS, QUERY, FIGURES, BETA] * 4, k=2))
+        return (draw.choice(BLOCK_FIRST),) + tuple(draw.choices(BLOCK_REST, k=2))
     if kind == 9:
         return (BETA, ALPHA, BETA)
     if kind == 10:
@@ -641,8 +660,103 @@ def record(draw, role, place, number, count, burst, offer, total=None,
     return bytes(fields + tuple(burst) + tuple(offer))
 
 
+def written_out(draw, station, burst, offer):
+    """The record of a step of this station; offer is byte 13 and three words."""
+    held = station.held if station.place == SENDING else None
+    total = station.total if station.place == ENDING else None
+    return record(draw, 0 if station.master else 1,
+                  programs.PLACES.index(station.place), station.number % 2,
+                  station.count, burst, offer, total=total,
+                  case=0 if station.case == "letters" else 1,
+                  plus=int(station.plus), held=held)
+
+
+def offered(offer):
+    """The offer of byte 13 and the three words behind it."""
+    return mode_a.Offer(programs.OFFERS[offer[0] % 4], tuple(offer[1:]))
+
+
+def spoilt(draw, burst):
+    """The burst with one to three words damaged, each by any mutilated byte."""
+    words = list(burst)
+    for index in draw.sample(range(3), draw.choice((1, 1, 2, 3))):
+        words[index] = draw.choice(MUTILATED)
+    return tuple(words)
+
+
+def chain_records(draw, station, most):
+    """Steps of one station, each from where the step before left it.  Nearly
+    every burst makes it repeat, so that the count climbs to the time-out; the
+    chain ends a few steps behind it."""
+    silent_for = 0
+    for _ in range(most):
+        helped = draw.random() < 0.004
+        offer = offer_of_sort(draw, draw.choice((0, 0, 1, 1, 3, 4)))
+        for _ in range(50):
+            burst = helpful_burst(draw, station) if helped else draw.choice(
+                (any_burst(draw), spoilt(draw, helpful_burst(draw, station))))
+            answer = mode_a.step(station, burst, offered(offer))
+            if helped or answer.station.place == LOST or (
+                    answer.station.count == station.count + 1):
+                break
+        yield written_out(draw, station, burst, offer)
+        station = answer.station
+        if station.place in (STANDBY, LOST):
+            silent_for += 1
+            if silent_for > 3:
+                return
+
+
+def circuit_records(draw, most, chance):
+    """Steps of a master and a slave in turn, over a circuit with damage."""
+    hearer, sender = mode_a.fresh_master(), mode_a.fresh_slave()
+    burst = single(CS1)
+    for _ in range(most):
+        burst = tuple(damaged(draw, burst, chance, MUTILATED))
+        sort = draw.choice((0, 1, 1, 1, 1, 3)) if draw.random() < 0.99 else 4
+        offer = offer_of_sort(draw, sort)
+        yield written_out(draw, hearer, burst, offer)
+        answer = mode_a.step(hearer, burst, offered(offer))
+        hearer, sender, burst = sender, answer.station, answer.burst
+
+
+def long_records(draw):
+    """Time-outs: chains from each place that has one, from fresh stations and
+    over damaged circuits, and damage at each place around the 32nd."""
+    for place in (SENDING, TURNING, OPENING, RECEIVING, ASKING):
+        for master in (True, False):
+            for count in (0, 0, 0, 29, 30, 31):
+                station = mode_a.Station(
+                    master, place, 0, mode_a.NO_BLOCK, 0, count,
+                    draw.choice(("letters", "figures")), draw.random() < 0.5)
+                if place in (SENDING, TURNING, RECEIVING):
+                    station = station._replace(number=draw.choice((1, 2)))
+                if place == SENDING:
+                    station = station._replace(held=block(draw))
+                yield from chain_records(draw, station, 40)
+    for fresh in (mode_a.fresh_master(), mode_a.fresh_slave()):
+        for _ in range(10):
+            yield from chain_records(draw, fresh, 70)
+    for chance in (0, 0.02, 0.1, 0.3, 0.6):
+        for _ in range(8):
+            yield from circuit_records(draw, 100, chance)
+    for place in programs.PLACES:
+        for count in (30, 31, 32):
+            for _ in range(60):
+                number = draw.choice((1, 2))
+                station = mode_a.Station(
+                    draw.random() < 0.5, place, number, block(draw),
+                    draw.randint(1, 4), count,
+                    draw.choice(("letters", "figures")), draw.random() < 0.5)
+                helpful = helpful_burst(draw, station)
+                offer = offer_of_sort(draw, draw.randrange(6))
+                yield written_out(draw, station, helpful, offer)
+                yield written_out(draw, station, spoilt(draw, helpful), offer)
+
+
 def steps_records(draw):
     """All the records, at least 200,000."""
+    yield from long_records(draw)
     nothing = (0, 0, 0, 0)
     # Each place with each kind of burst, each sort of offer, each count.
     for _ in range(17):

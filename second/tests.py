@@ -1,8 +1,9 @@
 #!/usr/bin/env python3
 """Tests of the second program by itself: paper 01's worked examples, the
-corners of its rules, and what demand 3 asks of two stations; and that
-second/compare does not pass where there is nothing to compare.  No proved
-program is run here; second/compare does that."""
+corners of its rules, and what demand 3 asks of two stations; that
+second/compare does not pass where there is nothing to compare, and that its
+inputs hold what they are there for.  No proved program is run here;
+second/compare does that."""
 
 import importlib.machinery
 import importlib.util
@@ -871,7 +872,7 @@ def compare_counts_inputs():
         empty = [inputs.quickly("empty", b"")] * least["inputs"]
         assert len(compare.shortages(name, empty)) == len(least) - 1
     # Without the inputs of one kind of `calls`.
-    all_cases = inputs.cases("calls", compare.GATE_SEED)
+    all_cases = inputs.cases("calls", inputs.GATE_SEED)
     assert compare.shortages("calls", all_cases) == []
     for kind in compare.CALL_KINDS:
         without = [case._replace(data=b"".join(
@@ -880,6 +881,89 @@ def compare_counts_inputs():
             if case.data[first:first + 1] != kind)) for case in all_cases]
         told = compare.shortages("calls", without)
         assert len(told) == 1 and "TOO FEW %s" % kind.decode() in told[0]
+
+
+# --- The inputs: that they hold what they are there for ---
+
+GATE_INPUTS = {}
+
+
+def gate_inputs(name):
+    """The inputs of the gate, made once."""
+    if name not in GATE_INPUTS:
+        GATE_INPUTS[name] = inputs.inputs_for(name, inputs.GATE_SEED)
+    return GATE_INPUTS[name]
+
+
+def inputs_are_bytes():
+    for name in inputs.NAMES:
+        assert all(type(data) is bytes for data in gate_inputs(name))
+    for name in ("encode", "receive"):
+        assert inputs.inputs_for(name) == gate_inputs(name)
+        assert [case.data for case in inputs.cases(name, 625)] == gate_inputs(name)
+        assert inputs.inputs_for(name, 626) != gate_inputs(name)
+
+
+def inputs_of_steps():
+    data = gate_inputs("steps")
+    records = [one[start:start + 17] for one in data
+               for start in range(0, len(one) - 16, 17)]
+    # Each field with each byte; the fields drawn apart from one another, which
+    # no run of stations leaves.
+    for index in range(17):
+        assert len({record[index] for record in records}) == 256
+    # Around the time-out at each place, with either role.
+    around = {}
+    for record in records:
+        key = (record[0] % 2, record[1] % 8, record[7])
+        around[key] = around.get(key, 0) + 1
+    for role in range(2):
+        for place in range(8):
+            for count in (0, 30, 31, 32):
+                assert around[role, place, count] >= 50
+    # Chains: counts 0 to 31 one after another, at each place with a count.
+    climbed = {}
+    length = 0
+    for before, after in zip(records, records[1:]):
+        same = before[1] % 8 == after[1] % 8 and before[0] % 2 == after[0] % 2
+        length = length + 1 if same and after[7] == before[7] + 1 else 0
+        if length == 31:
+            climbed[after[1] % 8] = climbed.get(after[1] % 8, 0) + 1
+    for place in (0, 1, 2, 4, 5):
+        assert climbed[place] >= 4
+    # Damage by any mutilated byte, at each place of the burst.
+    bad = set(MUTILATED)
+    for index in (10, 11, 12):
+        heard = [record[index] for record in records]
+        assert bad <= set(heard)
+        assert sum(word in bad and word != 0 for word in heard) > 20000
+
+
+def inputs_of_receive():
+    mutilated = unlike = ends = locks_after_an_end = ends_with_error = 0
+    good = set(INTACT)
+    for data in gate_inputs("receive"):
+        receiver = broadcast.fresh_receiver()
+        ended = False
+        try:
+            for word in programs.read_words(data):
+                before = receiver
+                receiver, signal = broadcast.hear_word(receiver, word)
+                mutilated += word != 0 and word not in good
+                if isinstance(before, broadcast.Searching):
+                    locks_after_an_end += ended and isinstance(
+                        receiver, broadcast.InPhase)
+                elif isinstance(receiver, broadcast.Searching):
+                    ended = True
+                    ends += 1
+                    ends_with_error += signal == 255
+                elif before.number % 2 == 1:
+                    dx = before.dx.get((before.number - 5) // 2, 0)
+                    unlike += signal == 255 and dx in good and word in good
+        except programs.NotANumber:
+            pass
+    assert mutilated > 5000 and unlike > 1000 and ends > 500
+    assert locks_after_an_end > 400 and ends_with_error > 20
 
 
 TESTS = [
@@ -894,6 +978,7 @@ TESTS = [
     calls_records, meaning_records, receive_records, receive_records_run_on,
     receive_records_cut,
     compare_names_all_programs, compare_counts_inputs,
+    inputs_are_bytes, inputs_of_steps, inputs_of_receive,
 ]
 
 
