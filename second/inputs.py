@@ -340,12 +340,14 @@ def heard_in_mode_b(draw, kind):
             words += draw.choices(
                 [ALPHA, RQ] * 3 + [LINE_FEED, CARRIAGE_RETURN, BETA, 0, 71], k=50)
         elif kind == "ends":
-            # A lock, a few positions, an end in DX, and what a new search may
-            # or may not take for its four signals.
+            # A lock, a few positions, an end in DX or nearly one, and what a new
+            # search may or may not take for its four signals.
             words += draw.choice(([RQ, ALPHA] * 2, [ALPHA, RQ] * 2 + [ALPHA]))
             for _ in range(draw.randrange(4)):
                 words += draw.choices((LINE_FEED, CARRIAGE_RETURN, 71, RQ, 0), k=2)
-            words += [ALPHA, draw.choice((ALPHA, RQ, 71, 0)), ALPHA]
+            alphas = [ALPHA] * 8 + [128 + ALPHA, 0, RQ]
+            words += [draw.choice(alphas), draw.choice((ALPHA, RQ, 71, 0)),
+                      draw.choice(alphas)]
             words += draw.choice(([], [ALPHA], [RQ], [0]))
             words += ([RQ, ALPHA] * 3)[:draw.randrange(3, 6)]
             words += draw.choices((LINE_FEED, 71, 86), k=draw.randrange(6))
@@ -518,15 +520,27 @@ def model_circuit(draw, most, chance):
     return bursts
 
 
-def starved_circuit(draw, place, bad):
-    """Bursts that lead a slave to a place, leave it there for `bad` steps, help
-    it on with one burst and go on a little."""
+def led_to(draw, place):
+    """Bursts that lead a slave to a place, and the slave there."""
     slave = mode_a.fresh_slave()
     bursts = []
     while slave.place != place or slave.count > 0 or len(bursts) < 3:
         burst = helpful_burst(draw, slave)
         slave = mode_a.step(slave, burst, mode_a.NOTHING).station
         bursts.append(burst)
+    return bursts, slave
+
+
+def left_circuit(draw, place, burst):
+    """Bursts that lead a slave to a place, one burst there, and a little more."""
+    bursts, _ = led_to(draw, place)
+    return bursts + [burst] + [any_burst(draw) for _ in range(5)]
+
+
+def starved_circuit(draw, place, bad):
+    """Bursts that lead a slave to a place, leave it there for `bad` steps, help
+    it on with one burst and go on a little."""
+    bursts, slave = led_to(draw, place)
     kept = 0
     while kept < bad:
         burst = any_burst(draw)
@@ -558,6 +572,13 @@ def hear_cases(draw):
                            bytes(draw.choices(WORDS, k=draw.randint(90, 200)))))
         out.append(quickly("random intact words",
                            bytes(draw.choices(INTACT, k=draw.randint(90, 900)))))
+    # What leads to Stand-by.
+    for burst in (single(CS3), (CS3, 71, 86), (CS3, 255, RQ)):
+        out.append(quickly("CS3 at Opening",
+                           joined(left_circuit(draw, OPENING, burst))))
+    for _ in range(2):
+        out.append(quickly("alphas at Receiving", joined(
+            left_circuit(draw, RECEIVING, (ALPHA, ALPHA, ALPHA)))))
     # The time-out to the burst, at each place that has one.
     for place in (SENDING, TURNING, OPENING, RECEIVING, ASKING):
         for bad in (30, 31, 32, 33):
@@ -1102,6 +1123,29 @@ def hostile_tails(draw):
                   receive_record(draw, printing=1, word=71)):
         for length in range(1, len(whole)):
             yield "record cut to %d" % length, whole[:length]
+
+
+def call_length(data, first):
+    """The length of the record of `calls` that begins there; 0 where its kind
+    is none."""
+    kind = data[first:first + 1]
+    if kind in (b"E", b"P"):
+        return 6 + int.from_bytes(data[first + 4:first + 6], "little")
+    if kind == b"S":
+        return 7 + int.from_bytes(data[first + 5:first + 7], "little")
+    return {b"M": 2, b"R": 11}.get(kind, 0)
+
+
+def call_records(data):
+    """Places of the records of a `calls` input, first byte and the one behind
+    the last, up to the first bad one."""
+    first = 0
+    while True:
+        behind = first + call_length(data, first)
+        if behind == first or behind > len(data):
+            return
+        yield first, behind
+        first = behind
 
 
 def calls_cases(draw):

@@ -1,9 +1,12 @@
 #!/usr/bin/env python3
 """Tests of the second program by itself: paper 01's worked examples, the
 corners of its rules, and what demand 3 asks of two stations; that
-second/compare does not pass where there is nothing to compare, and that its
-inputs hold what they are there for.  No proved program is run here;
-second/compare does that."""
+second/compare does not pass where there is nothing to compare, that its inputs
+hold what they are there for, and that they tell each of the faults of
+second/faults.py.  No proved program is run here; second/compare does that.
+
+The last line is 'N passed, M failed'.  N counts one for each test and one for
+each fault told."""
 
 import importlib.machinery
 import importlib.util
@@ -15,6 +18,7 @@ import traceback
 sys.dont_write_bytecode = True
 
 import broadcast  # noqa: E402
+import faults  # noqa: E402
 import inputs  # noqa: E402
 import programs  # noqa: E402
 import signals  # noqa: E402
@@ -874,13 +878,13 @@ def compare_counts_inputs():
     # Without the inputs of one kind of `calls`.
     all_cases = inputs.cases("calls", inputs.GATE_SEED)
     assert compare.shortages("calls", all_cases) == []
-    for kind in compare.CALL_KINDS:
+    for kind in inputs.KINDS:
         without = [case._replace(data=b"".join(
             case.data[first:behind]
-            for first, behind in compare.call_records(case.data)
-            if case.data[first:first + 1] != kind)) for case in all_cases]
+            for first, behind in inputs.call_records(case.data)
+            if case.data[first] != kind)) for case in all_cases]
         told = compare.shortages("calls", without)
-        assert len(told) == 1 and "TOO FEW %s" % kind.decode() in told[0]
+        assert len(told) == 1 and "TOO FEW %s" % chr(kind) in told[0]
 
 
 # --- The inputs: that they hold what they are there for ---
@@ -966,6 +970,38 @@ def inputs_of_receive():
     assert locks_after_an_end > 400 and ends_with_error > 20
 
 
+# --- The faults: that one which no input tells is a failure ---
+
+def faults_not_told_are_found():
+    trial = faults.Trial(lambda name: gate_inputs(name) if name == "encode" else [])
+
+    def tried(module, old, new):
+        return trial.try_fault(faults.Fault("a fault", ["encode"], module, old, new))
+
+    shift = "if needed is not None and needed != case:"
+    assert tried("text", shift, "if needed is not None:") == []
+    # One that changes nothing, one that only other programs could tell, one
+    # that ends the program, one that does not fit.
+    for module, old, new in (("text", shift, shift),
+                             ("station", "MOST_ENDS = 4", "MOST_ENDS = 5")):
+        assert tried(module, old, new) == [
+            "FAULT NOT TOLD by the inputs of encode: a fault"]
+    for old, new in ((shift, "if undefined:"), ("no such piece", ""), ("case", "x")):
+        told = tried("text", old, new)
+        assert len(told) == 1 and told[0].startswith("BAD FAULT: a fault: ")
+    for number in (0, 1, 39, 40, 41, 46, 47, 48, 500):
+        assert sorted(faults.order_of(number)) == list(range(number))
+
+
+def faults_of_all_programs():
+    tellers = {teller for one in faults.FAULTS for teller in one.tellers}
+    assert tellers == set(COMPARED) | {"calls " + chr(kind) for kind in inputs.KINDS}
+    assert len({one.about for one in faults.FAULTS}) == len(faults.FAULTS) >= 150
+    # The modules of the second program are as they were.
+    assert faults.programs_with(None) is not programs.PROGRAMS
+    assert sys.modules["programs"] is programs
+
+
 TESTS = [
     code_examples, code_all_256,
     encode_examples, encode_corners, print_corners, text_round_trip,
@@ -979,6 +1015,7 @@ TESTS = [
     receive_records_cut,
     compare_names_all_programs, compare_counts_inputs,
     inputs_are_bytes, inputs_of_steps, inputs_of_receive,
+    faults_not_told_are_found, faults_of_all_programs,
 ]
 
 
@@ -992,6 +1029,13 @@ def main():
             failed += 1
             print("%s failed:" % test.__name__)
             traceback.print_exc(file=sys.stdout)
+    trial = faults.Trial(gate_inputs)
+    for one in faults.FAULTS:
+        lines = trial.try_fault(one)
+        for line in lines:
+            print(line)
+        passed += not lines
+        failed += bool(lines)
     print("%d passed, %d failed" % (passed, failed))
     return 1 if failed else 0
 
