@@ -320,7 +320,8 @@ fault("15 phasing positions", "send, calls S", "broadcast",
 fault("16 alpha positions at the end", "send, calls S", "broadcast",
       "order.extend([IDLE] * 17)", "order.extend([IDLE] * 16)")
 fault("return and line feed are not counted for the break", "send, calls S",
-      "broadcast", "    traffic = 2\n", "    traffic = 96\n")
+      "broadcast", "        if traffic % 96 == 0:",
+      "        if traffic > 2 and (traffic - 2) % 96 == 0:")
 fault("a break after 97", "send, calls S", "broadcast",
       "        if traffic % 96 == 0:", "        if traffic % 97 == 0:")
 fault("a break though no more text remains", "send, calls S", "broadcast",
@@ -378,7 +379,7 @@ fault("search: the four need not alternate", "calls R, receive", "broadcast",
       "if receiver.run > 0 and word != receiver.last:", "if receiver.run > 0:")
 fault("search: alpha marks DX", "calls R, receive", "broadcast",
       "    if word == RQ:\n        last_slot = 6", "    if word == ALPHA:\n        last_slot = 6")
-fault("lock: what was heard before does not wait as RQ", "calls R", "broadcast",
+fault("lock: alpha waits in the place of an RQ", "calls R", "broadcast",
       "{2: RQ, 3: RQ}, False)", "{2: ALPHA, 3: RQ}, False)")
 fault("lock: printing has begun at once", "calls R, receive", "broadcast",
       "{2: RQ, 3: RQ}, False)", "{2: RQ, 3: RQ}, True)")
@@ -502,9 +503,9 @@ fault("calls: a record cut short is filled", "calls", "programs",
       "    if place + length > len(data):\n        raise BadRecord()\n"
       "    return data[place:place + length]",
       "    return (data[place:place + length] + bytes(length))[:length]")
-fault("calls M: the byte as it stands", "calls M", "programs",
+fault("calls M: the number is that of the byte without bit 7", "calls M", "programs",
       "% (MEANING[byte], intact(byte))", "% (MEANING[byte % 128], intact(byte))")
-fault("calls R: the oldest word is shown where DX is next", "calls R", "programs",
+fault("calls R: the settled word is not written as 0 where DX is next", "calls R", "programs",
       "        waiting = [0]\n", "        waiting = [RQ]\n")
 fault("calls R: a run of 0 keeps its last signal", "calls R", "programs",
       "        if run == 0:\n            return broadcast.Searching(0, None)\n"
