@@ -1,6 +1,10 @@
 """Inputs for second/compare: valid, damaged and hostile, long and short.
 
-cases(NAME, seed, slots) gives the same list each time it is asked.
+    inputs_for(NAME, seed)   the inputs of a program as bytes, for any caller
+    cases(NAME, seed)        the same with what each one tries
+    NAMES, GATE_SEED         the programs, and the seed of the gate
+
+Both give the same list each time they are asked.
 """
 
 import random
@@ -13,12 +17,14 @@ import text
 from refusal import Refused
 from signals import (ALPHA, BETA, CARRIAGE_RETURN, CS1, CS2, CS3, FIGURES,
                      LETTERS, LINE_FEED, MEANING, PLUS, QUERY, RQ, is_traffic)
-from station import (ASKING, OPENING, RECEIVING, SENDING, TURNING, LOST,
-                     STANDBY)
+from station import (ASKING, ENDING, LOST, OPENING, RECEIVING, SENDING, STANDBY,
+                     TURNING)
 
 # about: what the input tries, for the report of a difference.
 # slowly: written to the program a byte at a time, so that it meets short reads.
 Case = namedtuple("Case", "about data slowly")
+
+GATE_SEED = 625
 
 WORDS = list(range(256))
 INTACT = [word for word in WORDS if MEANING[word] != 0]
@@ -34,12 +40,14 @@ NAMED = [CS1, CS2, CS3, RQ, ALPHA, BETA, FIGURES, LETTERS, PLUS, QUERY,
          CARRIAGE_RETURN, LINE_FEED, 0, 127, 128 + ALPHA, 255]
 
 
-def cases(name, seed, slots):
-    """The inputs of one program.  slots: whether `calls` may get S records."""
-    draw = random.Random("%s %d" % (name, seed))
-    if name == "calls":
-        return calls_cases(draw, slots)
-    return MAKERS[name](draw)
+def cases(name, seed):
+    """The inputs of one program."""
+    return MAKERS[name](random.Random("%s %d" % (name, seed)))
+
+
+def inputs_for(name, seed=GATE_SEED):
+    """The inputs of one program, each all of its standard input."""
+    return [case.data for case in cases(name, seed)]
 
 
 def slowly(about, data):
@@ -332,12 +340,14 @@ def heard_in_mode_b(draw, kind):
             words += draw.choices(
                 [ALPHA, RQ] * 3 + [LINE_FEED, CARRIAGE_RETURN, BETA, 0, 71], k=50)
         elif kind == "ends":
-            # A lock, a few positions, an end in DX, and what a new search may
-            # or may not take for its four signals.
+            # A lock, a few positions, an end in DX or nearly one, and what a new
+            # search may or may not take for its four signals.
             words += draw.choice(([RQ, ALPHA] * 2, [ALPHA, RQ] * 2 + [ALPHA]))
             for _ in range(draw.randrange(4)):
                 words += draw.choices((LINE_FEED, CARRIAGE_RETURN, 71, RQ, 0), k=2)
-            words += [ALPHA, draw.choice((ALPHA, RQ, 71, 0)), ALPHA]
+            alphas = [ALPHA] * 8 + [128 + ALPHA, 0, RQ]
+            words += [draw.choice(alphas), draw.choice((ALPHA, RQ, 71, 0)),
+                      draw.choice(alphas)]
             words += draw.choice(([], [ALPHA], [RQ], [0]))
             words += ([RQ, ALPHA] * 3)[:draw.randrange(3, 6)]
             words += draw.choices((LINE_FEED, 71, 86), k=draw.randrange(6))
@@ -396,11 +406,13 @@ def single(word):
     return (word, 0, 0)
 
 
+IN_BLOCK_MORE = IN_BLOCK + [BETA] * 6 + [FIGURES, PLUS, PLUS, QUERY, QUERY,
+                                         LETTERS]
+
+
 def block(draw):
     """A block a slave accepts, with shifts, + and ? well among its signals."""
-    return tuple(draw.choices(IN_BLOCK + [BETA] * 6 + [FIGURES, PLUS, PLUS,
-                                                       QUERY, QUERY, LETTERS],
-                              k=3))
+    return tuple(draw.choices(IN_BLOCK_MORE, k=3))
 
 
 def any_burst(draw):
@@ -508,15 +520,27 @@ def model_circuit(draw, most, chance):
     return bursts
 
 
-def starved_circuit(draw, place, bad):
-    """Bursts that lead a slave to a place, leave it there for `bad` steps, help
-    it on with one burst and go on a little."""
+def led_to(draw, place):
+    """Bursts that lead a slave to a place, and the slave there."""
     slave = mode_a.fresh_slave()
     bursts = []
     while slave.place != place or slave.count > 0 or len(bursts) < 3:
         burst = helpful_burst(draw, slave)
         slave = mode_a.step(slave, burst, mode_a.NOTHING).station
         bursts.append(burst)
+    return bursts, slave
+
+
+def left_circuit(draw, place, burst):
+    """Bursts that lead a slave to a place, one burst there, and a little more."""
+    bursts, _ = led_to(draw, place)
+    return bursts + [burst] + [any_burst(draw) for _ in range(5)]
+
+
+def starved_circuit(draw, place, bad):
+    """Bursts that lead a slave to a place, leave it there for `bad` steps, help
+    it on with one burst and go on a little."""
+    bursts, slave = led_to(draw, place)
     kept = 0
     while kept < bad:
         burst = any_burst(draw)
@@ -548,6 +572,13 @@ def hear_cases(draw):
                            bytes(draw.choices(WORDS, k=draw.randint(90, 200)))))
         out.append(quickly("random intact words",
                            bytes(draw.choices(INTACT, k=draw.randint(90, 900)))))
+    # What leads to Stand-by.
+    for burst in (single(CS3), (CS3, 71, 86), (CS3, 255, RQ)):
+        out.append(quickly("CS3 at Opening",
+                           joined(left_circuit(draw, OPENING, burst))))
+    for _ in range(2):
+        out.append(quickly("alphas at Receiving", joined(
+            left_circuit(draw, RECEIVING, (ALPHA, ALPHA, ALPHA)))))
     # The time-out to the burst, at each place that has one.
     for place in (SENDING, TURNING, OPENING, RECEIVING, ASKING):
         for bad in (30, 31, 32, 33):
@@ -577,9 +608,16 @@ def hear_cases(draw):
 STEPS_IN_A_CASE = 20000
 
 
+# For blocks, with what an over is made of well among it; the first word of a
+# block that is no control signal.
+OVER_PARTS = [PLUS, QUERY, FIGURES, BETA] * 4
+BLOCK_FIRST = [word for word in IN_BLOCK
+               if word not in (CS1, CS2, CS3)] + OVER_PARTS
+BLOCK_REST = IN_BLOCK + OVER_PARTS
+
+
 def burst_of_kind(draw, kind):
     """The kinds of burst of docs/DECISIONS.md, each drawn at random."""
-    others = [word for word in IN_BLOCK if word not in (CS1, CS2, CS3)]
     if kind < 6:
         first = (CS1, CS2, CS3)[kind // 2]
         if kind % 2 == 0:
@@ -593,8 +631,7 @@ def burst_of_kind(draw, kind):
         return (RQ,) + draw.choice(((0, 0), (RQ, 0), (0, RQ), (71, 71),
                                     tuple(draw.choices(WORDS, k=2))))
     if kind == 8:
-        return (draw.choice(others + [PLUS, QUERY, FIGURES, BETA] * 4),) + tuple(
-            draw.choices(IN_BLOCK + [PLUS, QUERY, FIGURES, BETA] * 4, k=2))
+        return (draw.choice(BLOCK_FIRST),) + tuple(draw.choices(BLOCK_REST, k=2))
     if kind == 9:
         return (BETA, ALPHA, BETA)
     if kind == 10:
@@ -644,8 +681,103 @@ def record(draw, role, place, number, count, burst, offer, total=None,
     return bytes(fields + tuple(burst) + tuple(offer))
 
 
+def written_out(draw, station, burst, offer):
+    """The record of a step of this station; offer is byte 13 and three words."""
+    held = station.held if station.place == SENDING else None
+    total = station.total if station.place == ENDING else None
+    return record(draw, 0 if station.master else 1,
+                  programs.PLACES.index(station.place), station.number % 2,
+                  station.count, burst, offer, total=total,
+                  case=0 if station.case == "letters" else 1,
+                  plus=int(station.plus), held=held)
+
+
+def offered(offer):
+    """The offer of byte 13 and the three words behind it."""
+    return mode_a.Offer(programs.OFFERS[offer[0] % 4], tuple(offer[1:]))
+
+
+def spoilt(draw, burst):
+    """The burst with one to three words damaged, each by any mutilated byte."""
+    words = list(burst)
+    for index in draw.sample(range(3), draw.choice((1, 1, 2, 3))):
+        words[index] = draw.choice(MUTILATED)
+    return tuple(words)
+
+
+def chain_records(draw, station, most):
+    """Steps of one station, each from where the step before left it.  Nearly
+    every burst makes it repeat, so that the count climbs to the time-out; the
+    chain ends a few steps behind it."""
+    silent_for = 0
+    for _ in range(most):
+        helped = draw.random() < 0.004
+        offer = offer_of_sort(draw, draw.choice((0, 0, 1, 1, 3, 4)))
+        for _ in range(50):
+            burst = helpful_burst(draw, station) if helped else draw.choice(
+                (any_burst(draw), spoilt(draw, helpful_burst(draw, station))))
+            answer = mode_a.step(station, burst, offered(offer))
+            if helped or answer.station.place == LOST or (
+                    answer.station.count == station.count + 1):
+                break
+        yield written_out(draw, station, burst, offer)
+        station = answer.station
+        if station.place in (STANDBY, LOST):
+            silent_for += 1
+            if silent_for > 3:
+                return
+
+
+def circuit_records(draw, most, chance):
+    """Steps of a master and a slave in turn, over a circuit with damage."""
+    hearer, sender = mode_a.fresh_master(), mode_a.fresh_slave()
+    burst = single(CS1)
+    for _ in range(most):
+        burst = tuple(damaged(draw, burst, chance, MUTILATED))
+        sort = draw.choice((0, 1, 1, 1, 1, 3)) if draw.random() < 0.99 else 4
+        offer = offer_of_sort(draw, sort)
+        yield written_out(draw, hearer, burst, offer)
+        answer = mode_a.step(hearer, burst, offered(offer))
+        hearer, sender, burst = sender, answer.station, answer.burst
+
+
+def long_records(draw):
+    """Time-outs: chains from each place that has one, from fresh stations and
+    over damaged circuits, and damage at each place around the 32nd."""
+    for place in (SENDING, TURNING, OPENING, RECEIVING, ASKING):
+        for master in (True, False):
+            for count in (0, 0, 0, 29, 30, 31):
+                station = mode_a.Station(
+                    master, place, 0, mode_a.NO_BLOCK, 0, count,
+                    draw.choice(("letters", "figures")), draw.random() < 0.5)
+                if place in (SENDING, TURNING, RECEIVING):
+                    station = station._replace(number=draw.choice((1, 2)))
+                if place == SENDING:
+                    station = station._replace(held=block(draw))
+                yield from chain_records(draw, station, 40)
+    for fresh in (mode_a.fresh_master(), mode_a.fresh_slave()):
+        for _ in range(10):
+            yield from chain_records(draw, fresh, 70)
+    for chance in (0, 0.02, 0.1, 0.3, 0.6):
+        for _ in range(8):
+            yield from circuit_records(draw, 100, chance)
+    for place in programs.PLACES:
+        for count in (30, 31, 32):
+            for _ in range(60):
+                number = draw.choice((1, 2))
+                station = mode_a.Station(
+                    draw.random() < 0.5, place, number, block(draw),
+                    draw.randint(1, 4), count,
+                    draw.choice(("letters", "figures")), draw.random() < 0.5)
+                helpful = helpful_burst(draw, station)
+                offer = offer_of_sort(draw, draw.randrange(6))
+                yield written_out(draw, station, helpful, offer)
+                yield written_out(draw, station, spoilt(draw, helpful), offer)
+
+
 def steps_records(draw):
     """All the records, at least 200,000."""
+    yield from long_records(draw)
     nothing = (0, 0, 0, 0)
     # Each place with each kind of burst, each sort of offer, each count.
     for _ in range(17):
@@ -722,7 +854,7 @@ def steps_cases(draw):
 
 # --- calls ---
 
-CALLS_IN_A_CASE = 400
+CALLS_IN_A_CASE = 800
 
 
 def low_first(value, length):
@@ -874,10 +1006,104 @@ def slot_records(draw):
         yield slot_record(draw.randrange(2 * len(words) + 80), words)
 
 
-def hostile_tails(draw, slots):
+def meaning_records():
+    for byte in WORDS:
+        yield b"M" + bytes([byte])
+
+
+def receive_record(draw, *, run=None, last=None, dx=None, following=None,
+                   printing=None, word):
+    """An R record.  Searching where a run is given, else in phase.  Only the
+    lowest bit of a flag counts, so the rest of its byte is drawn at random; so
+    are the fields of the other state and the one that is kept."""
+    fields = draw.choices(WORDS, k=10)
+
+    def flag(index, value):
+        fields[index - 1] = (fields[index - 1] & 254) + value
+
+    flag(1, 0 if run is not None else 1)
+    if run is not None:
+        fields[1] = run
+    if last is not None:
+        flag(3, last)
+    if dx is not None:
+        fields[3:6] = dx
+    if following is not None:
+        flag(7, following)
+    if printing is not None:
+        flag(8, printing)
+    fields[9] = word
+    return b"R" + bytes(fields)
+
+
+# What a receiver may hear or hold, each sort of it: phasing signals, the other
+# service signal, what begins printing, shifts, other traffic, damage of each
+# sort (among it alpha and RQ with bit 7 set), and the error mark.
+IN_MODE_B = [ALPHA, RQ, BETA, CARRIAGE_RETURN, LINE_FEED, LETTERS, 71, 86, 0,
+             127, 128 + ALPHA, 128 + RQ, 255]
+DX_NEXT, RX_NEXT = 0, 1
+
+
+def receive_records(draw):
+    # The search: each run with each word, and runs that no search comes to.
+    for run in (0, 1, 2, 3):
+        for last in (0, 1):
+            for word in WORDS:
+                yield receive_record(draw, run=run, last=last, word=word)
+    for run in (4, 5, 255):
+        for last in (0, 1):
+            for word in IN_MODE_B:
+                yield receive_record(draw, run=run, last=last, word=word)
+    for run in WORDS:
+        for word in (ALPHA, RQ, draw.choice(WORDS)):
+            yield receive_record(draw, run=run, last=draw.randrange(2), word=word)
+    # In phase, DX next: the word heard, the one before it and the one that
+    # waits, each of each sort.
+    for printing in (0, 1):
+        for middle in IN_MODE_B:
+            for newest in IN_MODE_B:
+                for word in (ALPHA, RQ, LINE_FEED, draw.choice(IN_MODE_B)):
+                    yield receive_record(
+                        draw, dx=(draw.choice(WORDS), middle, newest),
+                        following=DX_NEXT, printing=printing, word=word)
+    # Two alpha in DX, with every word that may wait.
+    for printing in (0, 1):
+        for waiting in WORDS:
+            yield receive_record(draw, dx=(draw.choice(WORDS), waiting, ALPHA),
+                                 following=DX_NEXT, printing=printing, word=ALPHA)
+    # In phase, RX next: both copies of each sort; and each of the 256 words as
+    # either copy.
+    for printing in (0, 1):
+        for dx in IN_MODE_B:
+            for rx in IN_MODE_B:
+                for _ in range(2):
+                    rest = draw.choices(IN_MODE_B, k=2)
+                    yield receive_record(draw, dx=(dx, rest[0], rest[1]),
+                                         following=RX_NEXT, printing=printing,
+                                         word=rx)
+    for word in WORDS:
+        for other in (word, ALPHA, RQ, 0, draw.choice(TRAFFIC)):
+            for dx, rx in ((word, other), (other, word)):
+                rest = draw.choices(WORDS, k=2)
+                yield receive_record(draw, dx=(dx, rest[0], rest[1]),
+                                     following=RX_NEXT,
+                                     printing=draw.choice((0, 1, 1)), word=rx)
+    # Bytes of any value everywhere.
+    for number in range(2500):
+        fields = draw.choices(WORDS, k=10)
+        if number % 2 == 0:
+            fields[1] %= 5
+            fields[9] = draw.choice(IN_MODE_B)
+        yield b"R" + bytes(fields)
+
+
+KINDS = b"EPSMR"
+
+
+def hostile_tails(draw):
     """What ends the program: bad kinds, rooms, lengths, and cut records."""
-    kinds = [byte for byte in WORDS if byte not in b"EPS"]
-    for byte in draw.sample(kinds, 12) + list(b"eps"):
+    kinds = [byte for byte in WORDS if byte not in KINDS]
+    for byte in draw.sample(kinds, 12) + list(KINDS.lower()):
         yield "kind %d" % byte, bytes([byte]) + text_record(b"E", 0, 9, b"AB")
     heads = [b"E", b"P"]
     for head in heads:
@@ -889,27 +1115,51 @@ def hostile_tails(draw, slots):
         whole = text_record(head, 1, 5, bytes([71] * 6))
         for length in range(1, len(whole)):
             yield "record cut to %d" % length, whole[:length]
-    if slots:
-        for length in (8194, 65535):
-            whole = b"S" + low_first(5, 4) + low_first(length, 2)
-            yield "length %d" % length, whole + bytes([71]) * length
-        whole = slot_record(5, [71] * 4)
+    for length in (8194, 65535):
+        whole = b"S" + low_first(5, 4) + low_first(length, 2)
+        yield "length %d" % length, whole + bytes([71]) * length
+    for whole in (slot_record(5, [71] * 4), b"M" + bytes([71]),
+                  receive_record(draw, run=3, last=1, word=ALPHA),
+                  receive_record(draw, printing=1, word=71)):
         for length in range(1, len(whole)):
             yield "record cut to %d" % length, whole[:length]
 
 
-def calls_cases(draw, slots):
-    records = list(encode_records(draw)) + list(print_records(draw))
-    if slots:
-        records.extend(slot_records(draw))
+def call_length(data, first):
+    """The length of the record of `calls` that begins there; 0 where its kind
+    is none."""
+    kind = data[first:first + 1]
+    if kind in (b"E", b"P"):
+        return 6 + int.from_bytes(data[first + 4:first + 6], "little")
+    if kind == b"S":
+        return 7 + int.from_bytes(data[first + 5:first + 7], "little")
+    return {b"M": 2, b"R": 11}.get(kind, 0)
+
+
+def call_records(data):
+    """Places of the records of a `calls` input, first byte and the one behind
+    the last, up to the first bad one."""
+    first = 0
+    while True:
+        behind = first + call_length(data, first)
+        if behind == first or behind > len(data):
+            return
+        yield first, behind
+        first = behind
+
+
+def calls_cases(draw):
+    records = (list(encode_records(draw)) + list(print_records(draw))
+               + list(slot_records(draw)) + list(meaning_records())
+               + list(receive_records(draw)))
     draw.shuffle(records)
     short = [one for one in records if len(one) < 40]
-    out = [quickly("empty", b""), slowly("6 records", b"".join(short[:6])),
-           slowly("4 records and a bad one", b"".join(short[6:10]) + b"?")]
+    out = [quickly("empty", b""), slowly("12 records", b"".join(short[:12])),
+           slowly("8 records and a bad one", b"".join(short[12:20]) + b"?")]
     for start in range(0, len(records), CALLS_IN_A_CASE):
         out.append(quickly("records from %d on" % start,
                            b"".join(records[start:start + CALLS_IN_A_CASE])))
-    for about, tail in hostile_tails(draw, slots):
+    for about, tail in hostile_tails(draw):
         good = b"".join(draw.choices(short, k=draw.choice((0, 1, 5))))
         out.append(quickly(about, good + tail))
     return out
@@ -922,6 +1172,7 @@ MAKERS = {
     "send": send_cases,
     "receive": receive_cases,
     "steps": steps_cases,
+    "calls": calls_cases,
 }
 
-NAMES = ("hear", "encode", "print", "send", "receive", "steps", "calls")
+NAMES = tuple(MAKERS)

@@ -8,7 +8,7 @@ import broadcast
 import station as mode_a
 import text
 from refusal import Refused
-from signals import ALPHA, BETA, CS1, CS2, CS3, RQ
+from signals import ALPHA, BETA, CS1, CS2, CS3, MEANING, RQ, intact
 
 WHITE_SPACE = (32, 9, 13, 10)
 WORDS_ON_A_LINE = 16
@@ -272,6 +272,62 @@ def slot_call(data, place):
     return line, place + 6 + length
 
 
+def meaning_call(data, place):
+    """An `M` record: the number of a byte's signal, and whether it is intact."""
+    byte = cut(data, place, 1)[0]
+    return "%d %d\n" % (MEANING[byte], intact(byte)), place + 1
+
+
+def read_receiver(fields):
+    """The receiver of an `R` record.  `fields` are the record's bytes with the
+    kind at 0; those of the other state are not looked at."""
+    if fields[1] % 2 == 0:
+        run = fields[2]
+        if run == 0:
+            return broadcast.Searching(0, None)
+        return broadcast.Searching(run, ALPHA if fields[3] % 2 == 0 else RQ)
+    printing = fields[8] % 2 == 1
+    oldest, middle, newest = fields[4], fields[5], fields[6]
+    # The receiver counts its slots from any even number on; here the three
+    # words are the DX of positions 2, 3 and 4, heard in slots 4, 6 and 8.
+    if fields[7] % 2 == 0:
+        # Slot 9 was the RX of position 2, so that one is settled.
+        return broadcast.InPhase(10, {3: middle, 4: newest}, printing)
+    return broadcast.InPhase(9, {2: oldest, 3: middle, 4: newest}, printing)
+
+
+def receiver_line(answer):
+    if isinstance(answer, Refused):
+        return "refused %d %d\n" % (answer.number, answer.beside)
+    receiver, signal = answer
+    printed = 0 if signal is None else signal
+    if isinstance(receiver, broadcast.Searching):
+        last = {None: "none", ALPHA: "alpha", RQ: "RQ"}[receiver.last]
+        return "searching %d %s | %d\n" % (receiver.run, last, printed)
+    if receiver.number % 2 == 0:
+        newest = receiver.number // 2 - 1
+        waiting = [0]
+        following = "dx"
+    else:
+        newest = (receiver.number - 1) // 2
+        # Before the four signals of the lock: counts as phasing, so RQ.
+        waiting = [receiver.dx.get(newest - 2, RQ)]
+        following = "rx"
+    waiting.append(receiver.dx[newest - 1])
+    waiting.append(receiver.dx[newest])
+    wait = 0
+    return "phase %d %d %d %s %d %d | %d\n" % (
+        waiting[0], waiting[1], waiting[2], following, receiver.printing, wait,
+        printed)
+
+
+def receive_call(data, place):
+    """An `R` record: one step of a receiver that is written out."""
+    fields = b"R" + cut(data, place, 10)
+    answer = broadcast.hear_word(read_receiver(fields), fields[10])
+    return receiver_line(answer), place + 10
+
+
 def calls(data):
     lines = []
     error = b""
@@ -285,6 +341,10 @@ def calls(data):
                 line, behind = text_call(text.print_signals, data, place + 1)
             elif kind == b"S":
                 line, behind = slot_call(data, place + 1)
+            elif kind == b"M":
+                line, behind = meaning_call(data, place + 1)
+            elif kind == b"R":
+                line, behind = receive_call(data, place + 1)
             else:
                 raise BadRecord()
             lines.append(line)

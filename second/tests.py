@@ -1,8 +1,16 @@
 #!/usr/bin/env python3
 """Tests of the second program by itself: paper 01's worked examples, the
-corners of its rules, and what demand 3 asks of two stations.  No proved
-program is run here; second/compare does that."""
+corners of its rules, and what demand 3 asks of two stations; that
+second/compare does not pass where there is nothing to compare, that its inputs
+hold what they are there for, and that they tell each of the faults of
+second/faults.py.  No proved program is run here; second/compare does that.
 
+The last line is 'N passed, M failed'.  N counts one for each test and one for
+each fault told."""
+
+import importlib.machinery
+import importlib.util
+import os
 import random
 import sys
 import traceback
@@ -10,6 +18,8 @@ import traceback
 sys.dont_write_bytecode = True
 
 import broadcast  # noqa: E402
+import faults  # noqa: E402
+import inputs  # noqa: E402
 import programs  # noqa: E402
 import signals  # noqa: E402
 import station as mode_a  # noqa: E402
@@ -718,6 +728,280 @@ def calls_records():
         assert programs.calls(good + tail + good) == (lines, bad)
 
 
+def meaning_records():
+    data = b"".join(b"M" + bytes([byte]) for byte in range(256))
+    lines = programs.calls(data)[0].decode().splitlines()
+    assert len(lines) == 256
+    for byte, line in enumerate(lines):
+        number, intact = line.split(" ")
+        # 01: below 128 and exactly four ones, counted here unit by unit.
+        ones = sum(byte >> bit & 1 for bit in range(8))
+        assert intact == ("1" if byte < 128 and ones == 4 else "0")
+        assert (number == "0") == (intact == "0")
+    told = {71: "1", 86: "5", 101: "12", 89: "14", 106: "32", 15: "33",
+            51: "34", 102: "35"}
+    for byte, number in told.items():
+        assert lines[byte] == number + " 1"
+    for byte in (0, 127, 199, 255):
+        assert lines[byte] == "0 0"
+    assert programs.calls(b"M") == (b"", b"bad record at 0\n")
+    assert programs.calls(b"MGM") == (b"1 1\n", b"bad record at 2\n")
+
+
+def stepped(*fields):
+    """The line of an `R` record with these ten bytes behind its kind."""
+    assert len(fields) == 10
+    output, error = programs.calls(b"R" + bytes(fields))
+    assert error == b"" and output.endswith(b"\n")
+    return output.decode()[:-1]
+
+
+def receive_records():
+    # The lines worked in docs/FORMATS.md.
+    assert stepped(1, 0, 0, 71, 72, 15, 1, 1, 0, 71) == "phase 0 72 15 dx 1 0 | 71"
+    assert stepped(0, 3, 1, 0, 0, 0, 0, 0, 0, 15) == "phase 0 102 102 dx 0 0 | 0"
+    assert stepped(0, 4, 0, 0, 0, 0, 0, 0, 0, 15) == "refused 4 0"
+    # Refusal 4 for every run over 3, whatever is heard; not in phase.
+    for run in range(256):
+        for last in (0, 1):
+            for word in (ALPHA, RQ, E, 0):
+                line = stepped(0, run, last, 1, 1, 1, 1, 1, 1, word)
+                assert (line == "refused 4 0") == (run > 3)
+        assert stepped(1, run, 0, E, E, E, 1, 1, 9, E).startswith("phase ")
+    # The search.
+    assert stepped(0, 0, 1, 0, 0, 0, 0, 0, 0, RQ) == "searching 1 RQ | 0"
+    assert stepped(0, 0, 0, 0, 0, 0, 0, 0, 0, RQ) == "searching 1 RQ | 0"
+    assert stepped(2, 1, 1, 0, 0, 0, 0, 0, 0, ALPHA) == "searching 2 alpha | 0"
+    assert stepped(0, 3, 0, 0, 0, 0, 0, 0, 0, ALPHA) == "searching 1 alpha | 0"
+    assert stepped(0, 3, 1, 0, 0, 0, 0, 0, 0, E) == "searching 0 none | 0"
+    assert stepped(0, 3, 0, 0, 0, 0, 0, 0, 0, RQ) == "phase 102 102 102 rx 0 0 | 0"
+    # In phase, next DX: the word waits, the oldest of the three is settled.
+    assert stepped(1, 9, 9, 9, A, E, 0, 0, 9, L) == "phase %d %d %d rx 0 0 | 0" % (
+        A, E, L)
+    assert stepped(1, 0, 0, 9, A, ALPHA, 0, 1, 0, ALPHA) == (
+        "searching 0 none | %d" % A)
+    assert stepped(1, 0, 0, 9, 0, ALPHA, 0, 1, 0, ALPHA) == (
+        "searching 0 none | 255")
+    assert stepped(1, 0, 0, 9, 0, ALPHA, 0, 0, 0, ALPHA) == (
+        "searching 0 none | 0")
+    assert stepped(1, 0, 0, ALPHA, ALPHA, A, 0, 1, 0, ALPHA).startswith("phase ")
+    # In phase, next RX: the oldest of the three is settled.
+    assert stepped(1, 0, 0, LINE_FEED, A, E, 1, 0, 0, 255) == (
+        "phase 0 %d %d dx 1 0 | %d" % (A, E, LINE_FEED))
+    assert stepped(1, 0, 0, A, A, E, 1, 0, 0, A) == "phase 0 %d %d dx 0 0 | 0" % (A, E)
+    assert stepped(1, 0, 0, A, A, E, 1, 1, 0, E).endswith(" | 255")
+    assert stepped(1, 0, 0, RQ, A, E, 1, 1, 0, ALPHA).endswith(" | 0")
+    assert stepped(1, 0, 0, ALPHA, A, E, 1, 1, 0, RQ).endswith(" | 255")
+    assert stepped(1, 0, 0, BETA, A, E, 1, 1, 0, 0).endswith(" | 0")
+
+
+def receive_records_run_on():
+    """A run of `R` records, each written from the line before it, prints what
+    the receiver prints that runs by itself."""
+    draw = random.Random(6)
+    for _ in range(40):
+        sent = broadcast.slots(draw.choices(TRAFFIC + HEAD, k=draw.randrange(120)))
+        words = [draw.choice(range(256)) if draw.random() < 0.1 else word
+                 for word in sent + sent[draw.randrange(9):]]
+        out = []
+        fields = [0] * 9
+        for word in words:
+            receiver, _, signal = stepped(*(fields + [word])).partition(" | ")
+            if signal != "0":
+                out.append(int(signal))
+            told = receiver.split(" ")
+            if told[0] == "searching":
+                fields = [0, int(told[1]), told[2] == "RQ"] + draw.choices(
+                    range(256), k=6)
+            else:
+                fields = [1] + draw.choices(range(256), k=2) + [
+                    int(number) for number in told[1:4]] + [
+                    told[4] == "rx", int(told[5]), draw.randrange(256)]
+        assert out == received(words)[0]
+
+
+def receive_records_cut():
+    record = b"R" + bytes([1, 0, 0, 71, 72, 15, 1, 1, 0, 71])
+    line = b"phase 0 72 15 dx 1 0 | 71\n"
+    assert programs.calls(record * 2) == (line * 2, b"")
+    for length in range(1, 11):
+        assert programs.calls(record + record[:length]) == (
+            line, b"bad record at 11\n")
+
+
+# --- second/compare ---
+
+def load_compare():
+    path = os.path.join(os.path.dirname(os.path.abspath(__file__)), "compare")
+    loader = importlib.machinery.SourceFileLoader("compare", path)
+    module = importlib.util.module_from_spec(
+        importlib.util.spec_from_loader("compare", loader))
+    loader.exec_module(module)
+    return module
+
+
+compare = load_compare()
+COMPARED = ["encode", "print", "send", "receive", "hear", "steps", "calls"]
+
+
+def compare_names_all_programs():
+    assert sorted(compare.LEAST) == sorted(COMPARED) == sorted(programs.PROGRAMS)
+    assert sorted(inputs.NAMES) == sorted(COMPARED)
+    assert all(compare.EXCEPTIONS.values())
+    listed = COMPARED + sorted(compare.EXCEPTIONS)
+    faults = compare.faults_of_the_list
+    assert faults(listed, listed, COMPARED) == []
+    # One gone from crates.txt, whether or not its directory is there.
+    for gone in listed:
+        rest = [name for name in listed if name != gone]
+        for on_disk in (rest, listed):
+            told = faults(rest, on_disk, COMPARED)
+            assert len(told) == 1 and told[0].startswith(gone + ": MISSING")
+    assert len(faults([], [], COMPARED)) == len(listed)
+    # One without inputs.
+    for gone in COMPARED:
+        told = faults(listed, listed, [name for name in COMPARED if name != gone])
+        assert len(told) == 1 and told[0].startswith(gone + ": NOT COMPARED")
+    # One that nobody knows, listed or only on disk.
+    for more in (listed + ["fax"], listed):
+        told = faults(more, listed + ["fax"], COMPARED)
+        assert len(told) == 1 and told[0].startswith("fax: NOT COMPARED")
+
+
+def compare_counts_inputs():
+    for name, least in compare.LEAST.items():
+        assert len(least) > 1 and all(amount > 0 for amount in least.values())
+        # Nothing at all, and as many inputs as are asked with nothing in them.
+        assert len(compare.shortages(name, [])) == len(least)
+        empty = [inputs.quickly("empty", b"")] * least["inputs"]
+        assert len(compare.shortages(name, empty)) == len(least) - 1
+    # Without the inputs of one kind of `calls`.
+    all_cases = inputs.cases("calls", inputs.GATE_SEED)
+    assert compare.shortages("calls", all_cases) == []
+    for kind in inputs.KINDS:
+        without = [case._replace(data=b"".join(
+            case.data[first:behind]
+            for first, behind in inputs.call_records(case.data)
+            if case.data[first] != kind)) for case in all_cases]
+        told = compare.shortages("calls", without)
+        assert len(told) == 1 and "TOO FEW %s" % chr(kind) in told[0]
+
+
+# --- The inputs: that they hold what they are there for ---
+
+GATE_INPUTS = {}
+
+
+def gate_inputs(name):
+    """The inputs of the gate, made once."""
+    if name not in GATE_INPUTS:
+        GATE_INPUTS[name] = inputs.inputs_for(name, inputs.GATE_SEED)
+    return GATE_INPUTS[name]
+
+
+def inputs_are_bytes():
+    for name in inputs.NAMES:
+        assert all(type(data) is bytes for data in gate_inputs(name))
+    for name in ("encode", "receive"):
+        assert inputs.inputs_for(name) == gate_inputs(name)
+        assert [case.data for case in inputs.cases(name, 625)] == gate_inputs(name)
+        assert inputs.inputs_for(name, 626) != gate_inputs(name)
+
+
+def inputs_of_steps():
+    data = gate_inputs("steps")
+    records = [one[start:start + 17] for one in data
+               for start in range(0, len(one) - 16, 17)]
+    # Each field with each byte; the fields drawn apart from one another, which
+    # no run of stations leaves.
+    for index in range(17):
+        assert len({record[index] for record in records}) == 256
+    # Around the time-out at each place, with either role.
+    around = {}
+    for record in records:
+        key = (record[0] % 2, record[1] % 8, record[7])
+        around[key] = around.get(key, 0) + 1
+    for role in range(2):
+        for place in range(8):
+            for count in (0, 30, 31, 32):
+                assert around[role, place, count] >= 50
+    # Chains: counts 0 to 31 one after another, at each place with a count.
+    climbed = {}
+    length = 0
+    for before, after in zip(records, records[1:]):
+        same = before[1] % 8 == after[1] % 8 and before[0] % 2 == after[0] % 2
+        length = length + 1 if same and after[7] == before[7] + 1 else 0
+        if length == 31:
+            climbed[after[1] % 8] = climbed.get(after[1] % 8, 0) + 1
+    for place in (0, 1, 2, 4, 5):
+        assert climbed[place] >= 4
+    # Damage by any mutilated byte, at each place of the burst.
+    bad = set(MUTILATED)
+    for index in (10, 11, 12):
+        heard = [record[index] for record in records]
+        assert bad <= set(heard)
+        assert sum(word in bad and word != 0 for word in heard) > 20000
+
+
+def inputs_of_receive():
+    mutilated = unlike = ends = locks_after_an_end = ends_with_error = 0
+    good = set(INTACT)
+    for data in gate_inputs("receive"):
+        receiver = broadcast.fresh_receiver()
+        ended = False
+        try:
+            for word in programs.read_words(data):
+                before = receiver
+                receiver, signal = broadcast.hear_word(receiver, word)
+                mutilated += word != 0 and word not in good
+                if isinstance(before, broadcast.Searching):
+                    locks_after_an_end += ended and isinstance(
+                        receiver, broadcast.InPhase)
+                elif isinstance(receiver, broadcast.Searching):
+                    ended = True
+                    ends += 1
+                    ends_with_error += signal == 255
+                elif before.number % 2 == 1:
+                    dx = before.dx.get((before.number - 5) // 2, 0)
+                    unlike += signal == 255 and dx in good and word in good
+        except programs.NotANumber:
+            pass
+    assert mutilated > 5000 and unlike > 1000 and ends > 500
+    assert locks_after_an_end > 400 and ends_with_error > 20
+
+
+# --- The faults: that one which no input tells is a failure ---
+
+def faults_not_told_are_found():
+    trial = faults.Trial(lambda name: gate_inputs(name) if name == "encode" else [])
+
+    def tried(module, old, new):
+        return trial.try_fault(faults.Fault("a fault", ["encode"], module, old, new))
+
+    shift = "if needed is not None and needed != case:"
+    assert tried("text", shift, "if needed is not None:") == []
+    # One that changes nothing, one that only other programs could tell, one
+    # that ends the program, one that does not fit.
+    for module, old, new in (("text", shift, shift),
+                             ("station", "MOST_ENDS = 4", "MOST_ENDS = 5")):
+        assert tried(module, old, new) == [
+            "FAULT NOT TOLD by the inputs of encode: a fault"]
+    for old, new in ((shift, "if undefined:"), ("no such piece", ""), ("case", "x")):
+        told = tried("text", old, new)
+        assert len(told) == 1 and told[0].startswith("BAD FAULT: a fault: ")
+    for number in (0, 1, 39, 40, 41, 46, 47, 48, 500):
+        assert sorted(faults.order_of(number)) == list(range(number))
+
+
+def faults_of_all_programs():
+    tellers = {teller for one in faults.FAULTS for teller in one.tellers}
+    assert tellers == set(COMPARED) | {"calls " + chr(kind) for kind in inputs.KINDS}
+    assert len({one.about for one in faults.FAULTS}) == len(faults.FAULTS) >= 150
+    # The modules of the second program are as they were.
+    assert faults.programs_with(None) is not programs.PROGRAMS
+    assert sys.modules["programs"] is programs
+
+
 TESTS = [
     code_examples, code_all_256,
     encode_examples, encode_corners, print_corners, text_round_trip,
@@ -727,7 +1011,11 @@ TESTS = [
     sender_examples, sender_corners, search_is_last_four, lock_either_way,
     lock_at_a_break, end_of_reception, settling, perfect_copy,
     hear_example, words_in_and_out, letter_through_all, steps_records,
-    calls_records,
+    calls_records, meaning_records, receive_records, receive_records_run_on,
+    receive_records_cut,
+    compare_names_all_programs, compare_counts_inputs,
+    inputs_are_bytes, inputs_of_steps, inputs_of_receive,
+    faults_not_told_are_found, faults_of_all_programs,
 ]
 
 
@@ -741,6 +1029,13 @@ def main():
             failed += 1
             print("%s failed:" % test.__name__)
             traceback.print_exc(file=sys.stdout)
+    trial = faults.Trial(gate_inputs)
+    for one in faults.FAULTS:
+        lines = trial.try_fault(one)
+        for line in lines:
+            print(line)
+        passed += not lines
+        failed += bool(lines)
     print("%d passed, %d failed" % (passed, failed))
     return 1 if failed else 0
 

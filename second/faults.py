@@ -1,0 +1,683 @@
+#!/usr/bin/env python3
+"""Faults put into the second program, to see whether the inputs tell them.
+
+A fault is an edit of one file.  The second program is loaded once more with
+that edit, and the inputs of the gate are given to it until one answer differs
+from the unfaulted second program's.  Each program that a fault names has to
+tell it by its own inputs; of `calls` the records of one kind have to.  No proved
+program is run.
+
+    second/faults.py            all of them; the last line is the sum
+    second/faults.py --list     their names
+
+second/tests.py runs all of them.
+"""
+
+import os
+import sys
+import types
+from collections import namedtuple
+
+sys.dont_write_bytecode = True
+
+import inputs  # noqa: E402
+from programs import PROGRAMS  # noqa: E402
+
+HERE = os.path.dirname(os.path.abspath(__file__))
+
+# In the order in which they can be loaded: each imports only those before it.
+MODULES = ("refusal", "signals", "text", "station", "broadcast", "programs")
+
+# about: what is wrong.  tellers: the programs whose inputs have to tell it, and
+# of `calls` the kind of record, as in "calls R".  Then the module, a piece of
+# its source that stands in it once, and what takes its place.
+Fault = namedtuple("Fault", "about tellers module old new")
+
+FAULTS = []
+
+
+def fault(about, tellers, module, old, new):
+    FAULTS.append(Fault(about, tellers.split(", "), module, old, new))
+
+
+# --- The code ---
+
+fault("bit 7 is not looked at", "calls M, calls R, receive", "signals",
+      "return word < 128 and bin(word).count(\"1\") == 4",
+      "return bin(word & 127).count(\"1\") == 4")
+fault("five ones are intact too", "calls M, calls R, receive", "signals",
+      "bin(word).count(\"1\") == 4", "bin(word).count(\"1\") in (4, 5)")
+fault("the numbers of beta and RQ are changed round", "calls M", "signals",
+      "        table[word_of(SERVICE_ROWS[number - 33])] = number",
+      "        table[word_of(SERVICE_ROWS[number - 33])] = (33, 35, 34)[number - 33]")
+fault("the units of X and V are changed round", "calls M, encode, print, hear",
+      "signals",
+      """    ("V", "=", "YYBBBBY"),
+    ("W", "2", "BBBYYBY"),
+    ("X", "/", "YBYBBBY"),""",
+      """    ("V", "=", "YBYBBBY"),
+    ("W", "2", "BBBYYBY"),
+    ("X", "/", "YYBBBBY"),""")
+fault("the figure of S is a comma", "encode, print, calls E, calls P", "signals",
+      "(\"S\", \"'\",", "(\"S\", \",\",")
+
+# --- Text ---
+
+fault("encoding 4,096 characters is refused", "encode, calls E", "text",
+      "if len(characters) > MOST_CHARACTERS:", "if len(characters) >= MOST_CHARACTERS:")
+fault("encoding refuses 1 before 5", "encode, calls E", "text",
+      "if len(characters) > MOST_CHARACTERS:",
+      "if len(characters) > MOST_CHARACTERS and set(characters) <= set(SIGNAL_OF):")
+fault("encoding: room as long as needed is refused", "calls E", "text",
+      "if len(signals) > len(room):", "if len(signals) >= len(room) > 0:")
+fault("encoding: refusal 2 writes what fits", "calls E", "text",
+      "        return Refused(2, len(signals))",
+      "        room[:] = bytes(signals[:len(room)])\n"
+      "        return Refused(2, len(signals))")
+fault("encoding: refusal 2 tells one more than is needed", "calls E", "text",
+      "return Refused(2, len(signals))", "return Refused(2, len(signals) + 1)")
+fault("encoding: the room behind what is written is cleared", "calls E", "text",
+      "    room[:len(signals)] = bytes(signals)",
+      "    room[:] = bytes(signals) + bytes(len(room) - len(signals))")
+fault("encoding starts in letters, whatever case is given", "calls E", "text",
+      "    signals = []\n", "    signals = []\n    case = \"letters\"\n")
+fault("encoding: space needs letters case", "encode, calls E", "text",
+      "            table[ord(letter)] = (None, word)",
+      "            table[ord(letter)] = (\"letters\" if letter == \" \" else None, word)")
+fault("encoding: small letters are taken as capitals", "encode, calls E", "text",
+      "SIGNAL_OF = signals_of_characters()",
+      "SIGNAL_OF = signals_of_characters()\n"
+      "SIGNAL_OF[97] = SIGNAL_OF[65]")
+fault("F, G, H in figures print nothing", "print, calls P, hear", "text",
+      "return 35, \"figures\"", "return None, \"figures\"")
+fault("the error mark leads back to letters", "print, calls P", "text",
+      "return 42, \"figures\"", "return 42, \"letters\"")
+fault("a shift to the case in force toggles", "print, calls P, hear", "text",
+      "    if word == FIGURES:\n        return None, \"figures\"",
+      "    if word in (FIGURES, LETTERS):\n        return None, \"figures\"")
+fault("printing 8,192 signals is refused", "print, calls P", "text",
+      "if len(signals) > MOST_SIGNALS:", "if len(signals) >= MOST_SIGNALS:")
+fault("printing refuses 3 before 7", "print, calls P", "text",
+      "if len(signals) > MOST_SIGNALS:",
+      "if len(signals) > MOST_SIGNALS and all(\n"
+      "            is_traffic(word) or word == ERROR_MARK for word in signals):")
+fault("the error mark may not be printed", "print, calls P", "text",
+      "if not is_traffic(word) and word != ERROR_MARK:",
+      "if not is_traffic(word):")
+fault("printing: the room needed is counted in signals", "calls P", "text",
+      "if len(printed) > len(room):", "if len(signals) > len(room):")
+fault("printing: refusal 2 before 3", "calls P", "text",
+      "    for index, word in enumerate(signals):\n"
+      "        if not is_traffic(word)",
+      "    if not room and len(signals) > 0:\n"
+      "        return Refused(2, len(signals))\n"
+      "    for index, word in enumerate(signals):\n"
+      "        if not is_traffic(word)")
+fault("printing answers the case it started in", "calls P", "text",
+      "    printed = []\n    for word in signals:\n"
+      "        byte, case = RULE[case](word)",
+      "    printed = []\n    now = case\n    for word in signals:\n"
+      "        byte, now = RULE[now](word)")
+
+# --- The station: refusals ---
+
+fault("station: refusal 4 gone for the count", "steps", "station",
+      "    if station.count > MOST_COUNT:", "    if False:")
+fault("station: refusal 4 from a count of 33 on", "steps", "station",
+      "    if station.count > MOST_COUNT:", "    if station.count > MOST_COUNT + 1:")
+fault("station: the count is judged only where there is a time-out", "steps",
+      "station", "    if station.count > MOST_COUNT:",
+      "    if station.count > MOST_COUNT and station.place in COUNTING:")
+fault("station: refusal 4 gone for the total", "steps", "station",
+      "    if station.place == ENDING and not 1 <= station.total <= MOST_ENDS:",
+      "    if False:")
+fault("station: a total of 0 passes", "steps", "station",
+      "not 1 <= station.total", "not 0 <= station.total")
+fault("station: refusal 4 gone for the held words", "steps", "station",
+      "    if station.place == SENDING:\n", "    if False:\n")
+fault("station: only the first two held words are judged", "steps", "station",
+      "for word in station.held:", "for word in station.held[:2]:")
+fault("station: refusal 3 before 4", "steps", "station",
+      "    # \"Order: ... mode A step 4, 3\"\n",
+      "    if offer.kind == \"text\":\n"
+      "        for index, word in enumerate(offer.words):\n"
+      "            if not may_stand_in_block(word):\n"
+      "                return Refused(3, index)\n")
+fault("station: no refusal 3 at Stand-by and Lost", "steps", "station",
+      "    if offer.kind == \"text\":\n        for index",
+      "    if offer.kind == \"text\" and station.place in COUNTING + (ENDING,):\n"
+      "        for index")
+fault("station: beta is refused in a text offer", "steps", "station",
+      "            if not may_stand_in_block(word):\n"
+      "                return Refused(3, index)",
+      "            if not is_traffic(word):\n"
+      "                return Refused(3, index)")
+fault("station: refusal 3 tells the last such word", "steps", "station",
+      "for index, word in enumerate(offer.words):",
+      "for index, word in reversed(list(enumerate(offer.words))):")
+fault("station: RQ may stand in a block", "steps, hear", "station",
+      "return is_traffic(word) or word == BETA",
+      "return is_traffic(word) or word in (BETA, RQ)")
+
+# --- The station: count and time-out ---
+
+fault("Lost one step late", "steps, hear", "station",
+      "if count == MOST_COUNT + 1:", "if count == MOST_COUNT + 2:")
+fault("Lost one step early", "steps, hear", "station",
+      "if count == MOST_COUNT + 1:", "if count == MOST_COUNT:")
+fault("Lost forgets that a + was heard", "steps", "station",
+      "lost = at(station, LOST)._replace(count=0)",
+      "lost = at(station, LOST)._replace(count=0, plus=False)")
+fault("Lost keeps its count", "steps", "station",
+      "lost = at(station, LOST)._replace(count=0)", "lost = at(station, LOST)")
+fault("the 32nd still sends its burst", "steps, hear", "station",
+      "return Answer(lost, SILENCE, (), False)",
+      "return Answer(lost, answer.burst, (), False)")
+fault("confirming and accepting count as repetitions", "steps, hear", "station",
+      "                  and not confirmed_or_accepted)", "                  )")
+fault("the count is kept after other steps", "steps, hear", "station",
+      "        return answer._replace(station=answer.station._replace(count=0))",
+      "        return answer")
+fault("Ending counts too", "steps", "station",
+      "COUNTING = (SENDING, TURNING,", "COUNTING = (SENDING, ENDING, TURNING,")
+fault("Asking has no time-out", "steps, hear", "station",
+      "COUNTING = (SENDING, TURNING, OPENING, RECEIVING, ASKING)",
+      "COUNTING = (SENDING, TURNING, OPENING, RECEIVING)")
+
+# --- The station: rows ---
+
+fault("Sending reads all three words", "steps, hear", "station",
+      "    if first == CONTROL[station.number]:",
+      "    if burst[1:] != (0, 0):\n        first = 0\n"
+      "    if first == CONTROL[station.number]:")
+fault("Sending asked for its own number sends RQ", "steps, hear", "station",
+      "return Row(Answer(station, station.held, (), False), False)",
+      "return Row(Answer(station, THREE_RQ, (), False), False)")
+fault("nothing does not count as taken", "steps", "station",
+      "return Answer(at(station, SENDING, number, held=block), block, (), True)",
+      "return Answer(at(station, SENDING, number, held=block), block, (),\n"
+      "                  offer.kind != \"nothing\")")
+fault("nothing sends the block of an over", "steps", "station",
+      "        block = BETAS", "        block = OVER")
+fault("CS3 at Sending takes the offer", "steps", "station",
+      "return Row(Answer(turning_now, TURN, (), False), True)",
+      "return Row(Answer(turning_now, TURN, (), True), True)")
+fault("CS3 at Sending is no confirmation: the number stays asked for",
+      "steps, hear", "station",
+      "        turning_now = at(station, TURNING, station.number)",
+      "        turning_now = at(station, TURNING, other(station.number))")
+fault("a master at Turning is content with one RQ", "steps", "station",
+      "asked = burst == THREE_RQ", "asked = burst[0] == RQ")
+fault("a slave at Turning wants three RQ", "steps, hear", "station",
+      "asked = burst[0] == RQ", "asked = burst == THREE_RQ")
+# A slave comes to Turning only through Opening, and either step cancels the +:
+# `hear` can tell the next two only together.
+fault("+ kept from Turning to Receiving", "steps", "station",
+      "at(station, RECEIVING, awaited)._replace(plus=False)",
+      "at(station, RECEIVING, awaited)")
+fault("+ kept from Asking to Opening", "steps", "station",
+      "at(station, OPENING)._replace(plus=False)", "at(station, OPENING)")
+fault("the case goes back to letters at a turn", "steps, hear", "station",
+      "at(station, RECEIVING, awaited)._replace(plus=False)",
+      "at(station, RECEIVING, awaited)._replace(plus=False, case=\"letters\")")
+fault("CS3 at Turning gets RQ", "steps, hear", "station",
+      "return Row(Answer(station, TURN, (), False), False)",
+      "return Row(Answer(station, THREE_RQ, (), False), False)")
+fault("a slave at Opening sends one RQ", "steps, hear", "station",
+      "    if station.master:\n        return single(RQ)\n    return THREE_RQ",
+      "    return single(RQ)")
+fault("Opening takes the offer under number 1 always", "steps, hear", "station",
+      "return Row(take(station, offer, 2), False)",
+      "return Row(take(station, offer, 1), False)")
+fault("CS3 at Opening is any other word", "steps, hear", "station",
+      "        return Row(Answer(at(station, STANDBY), SILENCE, (), False), False)\n"
+      "    # \"All else: one RQ",
+      "        return Row(Answer(station, request(station), (), False), False)\n"
+      "    # \"All else: one RQ")
+fault("ending five times", "steps", "station",
+      "if station.total == MOST_ENDS:", "if station.total == MOST_ENDS + 1:")
+fault("ending three times", "steps", "station",
+      "if station.total == MOST_ENDS:", "if station.total >= MOST_ENDS - 1:")
+fault("Ending is left by the control signal of its own number", "steps", "station",
+      "    if burst[0] == CONTROL[other(station.number)]:\n"
+      "        # \"The other number's",
+      "    if burst[0] == CONTROL[station.number]:\n"
+      "        # \"The other number's")
+fault("a fresh slave awaits 2", "hear", "station",
+      "return Station(False, RECEIVING, 1,", "return Station(False, RECEIVING, 2,")
+fault("beta is printed", "steps", "station",
+      "printed = tuple(word for word in burst if is_traffic(word))",
+      "printed = tuple(burst)")
+fault("an over offered at Receiving is not taken", "steps", "station",
+      "                              offer.kind == \"over\"), True)",
+      "                              False), True)")
+fault("any offer is taken where an over is heard", "steps", "station",
+      "                              offer.kind == \"over\"), True)",
+      "                              True), True)")
+fault("an over offered is taken at a bad block", "steps", "station",
+      "    if burst == ALPHAS:\n",
+      "    if offer.kind == \"over\" and burst != ALPHAS:\n"
+      "        return Row(Answer(at(station, ASKING), single(CS3), (), True), True)\n"
+      "    if burst == ALPHAS:\n")
+fault("alphas at Receiving: asks for its own number", "steps, hear", "station",
+      "Answer(at(station, STANDBY), single(CONTROL[next_number]),",
+      "Answer(at(station, STANDBY), single(CONTROL[awaited]),")
+fault("alphas are heard by the first word", "steps, hear", "station",
+      "    if burst == ALPHAS:", "    if burst[0] == ALPHA:")
+fault("beta alpha beta is heard by two words", "steps, hear", "station",
+      "    if burst == TURN:", "    if burst[:2] == TURN[:2]:")
+fault("a block heard again is told by its content", "steps, hear", "station",
+      "        heard = station._replace(case=case, plus=plus)",
+      "        if burst[0] == burst[1] == burst[2] != BETA:\n"
+      "            printed = ()\n"
+      "        heard = station._replace(case=case, plus=plus)")
+fault("L inside a block is CS1", "steps, hear", "station",
+      "    awaited = station.number\n",
+      "    awaited = station.number\n"
+      "    if burst[0] == CS1:\n        burst = SILENCE\n")
+
+# --- The station: the over ---
+
+# From a fresh station no + is heard in letters: `hear` can tell these two only
+# together.
+fault("over heard in letters", "steps", "station",
+      "elif case == \"figures\" and word == QUERY:", "elif word == QUERY:")
+fault("+ heard in letters", "steps", "station",
+      "elif case == \"figures\" and word == PLUS:", "elif word == PLUS:")
+fault("+ and over heard in letters", "steps, hear", "station",
+      "elif case == \"figures\" and word == PLUS:\n            plus = True\n"
+      "        elif case == \"figures\" and word == QUERY:",
+      "elif word == PLUS:\n            plus = True\n        elif word == QUERY:")
+fault("beta cancels the over", "steps, hear", "station",
+      "        if word == BETA:\n            continue",
+      "        if word == BETA:\n            plus = False\n            continue")
+fault("+ behind + cancels", "steps, hear", "station",
+      "            plus = True\n", "            plus = not plus\n")
+fault("a shift to figures in figures leaves the +", "steps, hear", "station",
+      "            case = \"figures\"\n            plus = False",
+      "            plus = plus and case == \"figures\"\n            case = \"figures\"")
+fault("other signals do not cancel the +", "steps, hear", "station",
+      "        else:\n            plus = False\n    return case, plus, over",
+      "    return case, plus, over")
+fault("the over is heard only at the end of a block", "steps, hear", "station",
+      "            over = over or plus\n", "            over = over or plus\n"
+      "            over = over and word is block[2]\n")
+fault("the over does not reach across blocks", "steps, hear", "station",
+      "    over = False\n", "    over = False\n    plus = False\n")
+
+# --- Mode B: the sender ---
+
+fault("RX goes out four slots later", "send, calls S", "broadcast",
+      "        if t < 2:\n            words.append(ALPHA)               # slots 1 and 3\n"
+      "        else:\n            words.append(order[t - 2][1])",
+      "        if t < 1:\n            words.append(ALPHA)\n"
+      "        else:\n            words.append(order[t - 1][1])")
+fault("slots 1 and 3 carry RQ", "send, calls S", "broadcast",
+      "            words.append(ALPHA)               # slots 1 and 3",
+      "            words.append(RQ)")
+fault("15 phasing positions", "send, calls S", "broadcast",
+      "order = [PHASING] * 16", "order = [PHASING] * 15")
+fault("16 alpha positions at the end", "send, calls S", "broadcast",
+      "order.extend([IDLE] * 17)", "order.extend([IDLE] * 16)")
+fault("return and line feed are not counted for the break", "send, calls S",
+      "broadcast", "        if traffic % 96 == 0:",
+      "        if traffic > 2 and (traffic - 2) % 96 == 0:")
+fault("a break after 97", "send, calls S", "broadcast",
+      "        if traffic % 96 == 0:", "        if traffic % 97 == 0:")
+fault("a break though no more text remains", "send, calls S", "broadcast",
+      "    order.extend([IDLE] * 17)",
+      "    if traffic % 96 == 0:\n        order.extend([PHASING] * 4)\n"
+      "    order.extend([IDLE] * 17)")
+fault("only the first break", "send, calls S", "broadcast",
+      "        if traffic % 96 == 0:", "        if traffic == 96:")
+fault("the break of the 80th times 96 is left out", "send, calls S", "broadcast",
+      "        if traffic % 96 == 0:", "        if traffic % 96 == 0 and traffic != 7680:")
+fault("sending: 8,192 signals are refused", "send, calls S", "broadcast",
+      "if len(text) > MOST_SIGNALS:", "if len(text) >= MOST_SIGNALS:")
+fault("sending: refusal 3 before 7", "send, calls S", "broadcast",
+      "if len(text) > MOST_SIGNALS:",
+      "if len(text) > MOST_SIGNALS and all(is_traffic(word) for word in text):")
+fault("sending: beta is text", "send, calls S", "broadcast",
+      "        if not is_traffic(word):\n            return Refused(3, index)",
+      "        if not is_traffic(word) and word != 51:\n            return Refused(3, index)")
+fault("refusal 6 before 3", "calls S", "broadcast",
+      "    refusal = text_refusal(text)\n    if refusal is not None:\n",
+      "    refusal = text_refusal(text)\n"
+      "    if refusal is not None and refusal.number == 3:\n"
+      "        if number >= len(slots(text)):\n"
+      "            return Refused(6, len(slots(text)))\n"
+      "    if refusal is not None:\n")
+fault("refusal 6 tells the number of positions", "calls S", "broadcast",
+      "return Refused(6, len(words))", "return Refused(6, len(words) // 2)")
+fault("slot numbers are cut to 16 bits", "calls S", "broadcast",
+      "    words = slots(text)\n", "    words = slots(text)\n    number %= 65536\n")
+
+# --- Mode B: the receiver ---
+
+fault("receiver: refusal 4 gone", "calls R", "broadcast",
+      "        if receiver.run > MOST_RUN:", "        if False:")
+fault("receiver: refusal 4 from a run of 5 on", "calls R", "broadcast",
+      "        if receiver.run > MOST_RUN:", "        if receiver.run > MOST_RUN + 1:")
+fault("receiver: a run of 255 passes", "calls R", "broadcast",
+      "        if receiver.run > MOST_RUN:", "        if MOST_RUN < receiver.run < 255:")
+fault("receiver: refusal 4 only where the run goes on", "calls R", "broadcast",
+      "        if receiver.run > MOST_RUN:",
+      "        if receiver.run > MOST_RUN and word in (ALPHA, RQ):")
+fault("search: another word leaves the run", "calls R, receive", "broadcast",
+      "    if word not in (ALPHA, RQ):\n        return Searching(0, None)",
+      "    if word not in (ALPHA, RQ):\n        return receiver")
+fault("search: the same signal again leaves the run", "calls R, receive",
+      "broadcast", "    else:\n        run = 1\n",
+      "    else:\n        run = max(receiver.run, 1)\n")
+fault("search: the same signal again sets the run to 0", "calls R, receive",
+      "broadcast", "    else:\n        run = 1\n    if run <= MOST_RUN:",
+      "    elif receiver.run > 0:\n        return Searching(0, None)\n"
+      "    else:\n        run = 1\n    if run <= MOST_RUN:")
+fault("search: three signals are enough", "calls R, receive", "broadcast",
+      "    if run <= MOST_RUN:", "    if run < MOST_RUN:")
+fault("search: the four need not alternate", "calls R, receive", "broadcast",
+      "if receiver.run > 0 and word != receiver.last:", "if receiver.run > 0:")
+fault("search: alpha marks DX", "calls R, receive", "broadcast",
+      "    if word == RQ:\n        last_slot = 6", "    if word == ALPHA:\n        last_slot = 6")
+fault("lock: alpha waits in the place of an RQ", "calls R", "broadcast",
+      "{2: RQ, 3: RQ}, False)", "{2: ALPHA, 3: RQ}, False)")
+fault("lock: printing has begun at once", "calls R, receive", "broadcast",
+      "{2: RQ, 3: RQ}, False)", "{2: RQ, 3: RQ}, True)")
+fault("unlike copies settle as phasing", "calls R, receive", "broadcast",
+      "        return rx\n    return SETTLED_ERROR",
+      "        return rx\n"
+      "    return SETTLED_PHASING if intact(dx) else SETTLED_ERROR")
+fault("unlike copies settle as the first", "calls R, receive", "broadcast",
+      "        return rx\n    return SETTLED_ERROR",
+      "        return rx\n    return dx if intact(dx) else SETTLED_ERROR")
+fault("two damaged copies settle as phasing", "calls R, receive", "broadcast",
+      "        return rx\n    return SETTLED_ERROR",
+      "        return rx\n"
+      "    return SETTLED_ERROR if intact(dx) else SETTLED_PHASING")
+fault("two equal damaged copies settle as that word", "calls R, receive",
+      "broadcast", "if intact(dx) and intact(rx) and dx == rx:",
+      "if dx == rx:")
+fault("alpha then RQ is phasing too", "calls R, receive", "broadcast",
+      "if dx == RQ and rx == ALPHA:", "if {dx, rx} == {RQ, ALPHA}:")
+fault("RQ then alpha is an error", "calls R, receive", "broadcast",
+      "if dx == RQ and rx == ALPHA:", "if False:")
+fault("a lone RX copy is not taken", "calls R, receive", "broadcast",
+      "    if intact(rx) and not intact(dx):\n        return rx\n",
+      "    if intact(rx) and not intact(dx):\n        return SETTLED_ERROR\n")
+fault("a lone DX copy is not taken", "calls R, receive", "broadcast",
+      "    if intact(dx) and not intact(rx):\n        return dx\n",
+      "    if intact(dx) and not intact(rx):\n        return SETTLED_ERROR\n")
+fault("RX is settled with the DX two slots too young", "calls R, receive",
+      "broadcast", "        settled = settle(receiver.dx[t], word)",
+      "        settled = settle(receiver.dx.get(t + 1, RQ), word)")
+fault("reception ends at one alpha in DX", "calls R, receive", "broadcast",
+      "if word == ALPHA and before.get(t - 1) == ALPHA:", "if word == ALPHA:")
+fault("reception ends only once printing has begun", "calls R, receive",
+      "broadcast", "if word == ALPHA and before.get(t - 1) == ALPHA:",
+      "if word == ALPHA and before.get(t - 1) == ALPHA and receiver.printing:")
+fault("reception ends by a damaged alpha", "calls R, receive", "broadcast",
+      "before.get(t - 1) == ALPHA:", "before.get(t - 1) % 128 == ALPHA:")
+fault("at the end nothing is settled", "calls R, receive", "broadcast",
+      "settled = settle_alone(before[t - 2])", "settled = SETTLED_PHASING")
+fault("at the end a damaged DX prints nothing", "calls R, receive", "broadcast",
+      "        return dx\n    return SETTLED_ERROR\n\n\ndef print_settled",
+      "        return dx\n    return SETTLED_PHASING\n\n\ndef print_settled")
+fault("at the end printing cannot begin", "calls R, receive", "broadcast",
+      "        return fresh_receiver(), printed",
+      "        return fresh_receiver(), printed if receiver.printing else None")
+fault("the last alpha is the first of the new search", "calls R, receive",
+      "broadcast", "        return fresh_receiver(), printed",
+      "        return Searching(1, ALPHA), printed")
+fault("printing begins with a line feed only", "calls R, receive", "broadcast",
+      "    if settled in (CARRIAGE_RETURN, LINE_FEED):",
+      "    if settled == LINE_FEED:")
+fault("printing begins with any traffic signal", "calls R, receive", "broadcast",
+      "    if not printing or settled == SETTLED_PHASING:",
+      "    if settled == SETTLED_PHASING or not printing and not (\n"
+      "            settled != SETTLED_ERROR and is_traffic(settled)):")
+fault("the first return is not printed", "calls R, receive", "broadcast",
+      "        return True, settled\n    if not printing",
+      "        return True, settled if printing else None\n    if not printing")
+fault("errors are printed before printing has begun", "calls R, receive",
+      "broadcast", "    if not printing or settled == SETTLED_PHASING:",
+      "    if settled == SETTLED_ERROR:\n        return printing, ERROR_MARK\n"
+      "    if not printing or settled == SETTLED_PHASING:")
+fault("errors are not printed", "calls R, receive", "broadcast",
+      "        return True, ERROR_MARK", "        return True, None")
+fault("beta is printed in mode B", "calls R, receive", "broadcast",
+      "    if is_traffic(settled):\n        return True, settled",
+      "    if is_traffic(settled) or settled == 51:\n        return True, settled")
+fault("printing ends with a settled alpha", "calls R, receive", "broadcast",
+      "    return True, None\n", "    return settled != ALPHA, None\n")
+
+# --- The programs ---
+
+fault("hear: the case starts anew with each burst", "hear", "programs",
+      "        room = bytearray(3)\n", "        room = bytearray(3)\n        case = \"letters\"\n")
+fault("hear: a short last burst is ignored", "hear", "programs",
+      "    for start in range(0, len(data), 3):",
+      "    for start in range(0, len(data) - 2, 3):")
+fault("hear: steps are numbered from 0", "hear", "programs",
+      "(start // 3 + 1,", "(start // 3,")
+fault("words: fifteen to a line", "encode, send, receive", "programs",
+      "WORDS_ON_A_LINE = 16", "WORDS_ON_A_LINE = 15")
+fault("words: a vertical tab is white space", "print, send, receive", "programs",
+      "WHITE_SPACE = (32, 9, 13, 10)", "WHITE_SPACE = (32, 9, 13, 10, 11)")
+fault("words: 256 passes as 0", "print, send, receive", "programs",
+      "value = min(value * 10 + byte - 48, 256)",
+      "value = (value * 10 + byte - 48) % 256")
+fault("words: values are cut to 64 bits", "print, send, receive", "programs",
+      "value = min(value * 10 + byte - 48, 256)",
+      "value = (value * 10 + byte - 48) % 2 ** 64")
+fault("words: values are cut to 32 bits", "print, send, receive", "programs",
+      "value = min(value * 10 + byte - 48, 256)",
+      "value = (value * 10 + byte - 48) % 2 ** 32")
+fault("words: the place told is behind the run", "print, send, receive",
+      "programs", "raise NotANumber(first)", "raise NotANumber(place)")
+fault("words: more than the most are looked at", "print, send", "programs",
+      "    while most is None or found < most:", "    while True:")
+fault("receive: a fault drops what was printed", "receive", "programs",
+      "        error = not_a_number_line(fault)\n    return write_words(printed), error",
+      "        return b\"\", not_a_number_line(fault)\n    return write_words(printed), error")
+fault("encode: one character too few is read", "encode", "programs",
+      "data[:text.MOST_CHARACTERS + 1]", "data[:text.MOST_CHARACTERS]")
+fault("steps: a short last record is filled", "steps", "programs",
+      "    for start in range(0, len(data) - RECORD + 1, RECORD):\n"
+      "        station, burst, offer = read_step(data[start:start + RECORD])",
+      "    for start in range(0, len(data), RECORD):\n"
+      "        station, burst, offer = read_step(\n"
+      "            (data[start:start + RECORD] + bytes(RECORD))[:RECORD])")
+fault("steps: the number is the byte itself", "steps", "programs",
+      "number = 1 if record[2] % 2 == 1 else 2", "number = 1 if record[2] == 1 else 2")
+fault("calls: a room of 8,193 passes", "calls", "programs",
+      "MOST_ROOM = 8192", "MOST_ROOM = 8193")
+fault("calls: a length of 8,194 passes", "calls", "programs",
+      "MOST_LENGTH = 8193", "MOST_LENGTH = 8194")
+fault("calls: small letters are kinds", "calls", "programs",
+      "            kind = data[place:place + 1]",
+      "            kind = data[place:place + 1].upper()")
+fault("calls: a bad record is told at its end", "calls", "programs",
+      "error = error_line(\"bad record at\", place)",
+      "error = error_line(\"bad record at\", len(data))")
+fault("calls: a record cut short is filled", "calls", "programs",
+      "    if place + length > len(data):\n        raise BadRecord()\n"
+      "    return data[place:place + length]",
+      "    return (data[place:place + length] + bytes(length))[:length]")
+fault("calls M: the number is that of the byte without bit 7", "calls M", "programs",
+      "% (MEANING[byte], intact(byte))", "% (MEANING[byte % 128], intact(byte))")
+fault("calls R: the settled word is not written as 0 where DX is next", "calls R", "programs",
+      "        waiting = [0]\n", "        waiting = [RQ]\n")
+fault("calls R: a run of 0 keeps its last signal", "calls R", "programs",
+      "        if run == 0:\n            return broadcast.Searching(0, None)\n"
+      "        return broadcast.Searching(run,",
+      "        return broadcast.Searching(max(run, 1),")
+fault("calls R: flags are whole bytes", "calls R", "programs",
+      "printing = fields[8] % 2 == 1", "printing = fields[8] != 0")
+fault("calls R: the words in the other order", "calls R", "programs",
+      "oldest, middle, newest = fields[4], fields[5], fields[6]",
+      "oldest, middle, newest = fields[6], fields[5], fields[4]")
+
+
+# --- Loading ---
+
+class BadFault(Exception):
+    """The fault itself is wrong: it says nothing about the inputs."""
+
+
+def source_of(module):
+    with open(os.path.join(HERE, module + ".py"), encoding="utf-8") as file:
+        return file.read()
+
+
+SOURCES = {module: source_of(module) for module in MODULES}
+COMPILED = {module: compile(source, module + ".py", "exec")
+            for module, source in SOURCES.items()}
+
+
+def programs_with(one):
+    """PROGRAMS of a second program with one fault; of none where it is None."""
+    compiled = dict(COMPILED)
+    if one is not None:
+        source = SOURCES[one.module]
+        if source.count(one.old) != 1:
+            raise BadFault("what it replaces is %d times in %s.py"
+                           % (source.count(one.old), one.module))
+        compiled[one.module] = compile(source.replace(one.old, one.new),
+                                       one.module + ".py", "exec")
+    kept = {name: sys.modules.get(name) for name in MODULES}
+    try:
+        for name in MODULES:
+            module = types.ModuleType(name)
+            sys.modules[name] = module
+            exec(compiled[name], module.__dict__)
+        return sys.modules["programs"].PROGRAMS
+    finally:
+        for name, module in kept.items():
+            if module is None:
+                del sys.modules[name]
+            else:
+                sys.modules[name] = module
+
+
+# --- The inputs, in pieces ---
+
+STEPS_IN_A_PIECE = 200
+CALLS_IN_A_PIECE = 20
+
+
+def steps_pieces(data):
+    """Records do not know of each other, so an input may be cut between them."""
+    size = 17 * STEPS_IN_A_PIECE
+    return [data[start:start + size] for start in range(0, len(data), size)]
+
+
+def calls_by_kind(all_data):
+    """The records of a kind, short ones first, in pieces: from "calls E" to
+    pieces.  Under "calls" the inputs as they are, short ones first."""
+    records = {kind: [] for kind in inputs.KINDS.decode()}
+    for data in all_data:
+        for first, behind in inputs.call_records(data):
+            records[chr(data[first])].append(data[first:behind])
+    pieces = {"calls": sorted(all_data, key=len)}
+    for kind, found in records.items():
+        found.sort(key=len)
+        pieces["calls " + kind] = [
+            b"".join(found[start:start + CALLS_IN_A_PIECE])
+            for start in range(0, len(found), CALLS_IN_A_PIECE)]
+    return pieces
+
+
+def pieces_of(name, all_data):
+    """From teller to the pieces it is given."""
+    if name == "calls":
+        return calls_by_kind(all_data)
+    if name == "steps":
+        return {name: [piece for data in sorted(all_data, key=len)
+                       for piece in steps_pieces(data)]}
+    return {name: sorted(all_data, key=len)}
+
+
+SHORT_ONES_FIRST = 40
+SHORT_TO_A_LONG_ONE = 6
+
+
+def order_of(number):
+    """The order in which `number` pieces are tried: short ones first, then a
+    long one between every few, since some faults show only at a limit."""
+    low = min(SHORT_ONES_FIRST, number)
+    high = number
+    order = list(range(low))
+    while low < high:
+        high -= 1
+        order.append(high)
+        few = range(low, min(low + SHORT_TO_A_LONG_ONE, high))
+        order.extend(few)
+        low += len(few)
+    return order
+
+
+# --- Telling ---
+
+class Trial:
+    """The pieces, and the unfaulted second program's answers to those that have
+    been needed."""
+
+    def __init__(self, inputs_for):
+        self.pieces = {}
+        for name in inputs.NAMES:
+            self.pieces.update(pieces_of(name, inputs_for(name)))
+        self.answers = {}
+        # From teller to the pieces by which a fault was told: they are tried
+        # first for the next one.
+        self.told = {teller: [] for teller in self.pieces}
+
+    def answer(self, teller, index):
+        if (teller, index) not in self.answers:
+            program = PROGRAMS[teller.split()[0]]
+            self.answers[teller, index] = program(self.pieces[teller][index])
+        return self.answers[teller, index]
+
+    def tells(self, faulty, teller):
+        """Whether some piece has another answer from the faulty program."""
+        program = faulty[teller.split()[0]]
+        pieces = self.pieces[teller]
+        told = self.told[teller]
+        for index in told + order_of(len(pieces)):
+            if program(pieces[index]) != self.answer(teller, index):
+                if index not in told:
+                    told.append(index)
+                    told.sort()
+                return True
+        return False
+
+    def try_fault(self, one):
+        """Lines that say what is wrong; none where every teller tells it."""
+        try:
+            faulty = programs_with(one)
+            return ["FAULT NOT TOLD by the inputs of %s: %s" % (teller, one.about)
+                    for teller in one.tellers if not self.tells(faulty, teller)]
+        except Exception as trouble:
+            # A program that ends by itself is no wrong answer.
+            return ["BAD FAULT: %s: %s: %s"
+                    % (one.about, type(trouble).__name__, trouble)]
+
+
+def main(arguments):
+    if arguments == ["--list"]:
+        for one in FAULTS:
+            print("%s (%s)" % (one.about, ", ".join(one.tellers)))
+        return 0
+    trial = Trial(inputs.inputs_for)
+    passed = failed = 0
+    for one in FAULTS:
+        lines = trial.try_fault(one)
+        for line in lines:
+            print(line)
+        passed += not lines
+        failed += bool(lines)
+    print("%d passed, %d failed" % (passed, failed))
+    return 1 if failed else 0
+
+
+if __name__ == "__main__":
+    sys.exit(main(sys.argv[1:]))
