@@ -61,6 +61,15 @@ uint8_t plain_meaning(uint8_t word)
     return MEANING[word];
 }
 
+unsigned plain_intact(uint8_t word)
+{
+    unsigned ones = 0;
+
+    for (unsigned unit = 0; unit < 7; unit++)
+        ones += word >> unit & 1u;
+    return word < 128 && ones == 4;
+}
+
 /* --- Text --- */
 
 /* In the tables of encode and print, the top bit marks an entry of the ordinary
@@ -623,11 +632,11 @@ static inline unsigned searches(struct receiver *receiver, unsigned word)
 
 unsigned plain_receive(struct receiver *receiver, uint8_t word)
 {
-    unsigned heard = INTACT[word];
     uint32_t waiting = receiver->waiting;
 
     if (receiver->phase == PHASE_RX) {
-        unsigned first = waiting >> 16 & 0xFF;
+        unsigned first = INTACT[waiting >> 16 & 0xFF];
+        unsigned heard = INTACT[word];
         unsigned both = first & heard;
         unsigned settled = first | heard;
 
@@ -640,11 +649,11 @@ unsigned plain_receive(struct receiver *receiver, uint8_t word)
         return prints(receiver, settled);
     }
     if (receiver->phase == PHASE_DX) {
-        waiting = waiting << 8 | heard;
+        waiting = waiting << 8 | word;
         if (UNLIKELY((waiting & 0xFFFF) == (WORD_ALPHA << 8 | WORD_ALPHA))) {
             receiver->phase = PHASE_SEARCHING;
             receiver->run = 0;
-            return prints(receiver, waiting >> 16 & 0xFF);
+            return prints(receiver, INTACT[waiting >> 16 & 0xFF]);
         }
         receiver->waiting = waiting;
         receiver->phase = PHASE_RX;

@@ -36,6 +36,9 @@ static inline uint32_t burst_of(uint8_t first, uint8_t second, uint8_t third)
 /* The number of the signal, 1 to 35; 0 for a mutilated word. */
 uint8_t plain_meaning(uint8_t word);
 
+/* Whether the word is below 128 and has exactly four ones. */
+unsigned plain_intact(uint8_t word);
+
 /* --- Text, and the slots of mode B --- */
 
 /* Bits 0 to 31: how many bytes were written, or the word of the slot; where
@@ -107,8 +110,8 @@ step_answer plain_step(struct station *station, uint32_t burst, uint32_t offer);
 enum { PHASE_SEARCHING, PHASE_DX, PHASE_RX };
 
 struct receiver {
-    uint32_t waiting;   /* in phase: the last DX words, the latest in the low
-                           byte; 0 stands for a mutilated one */
+    uint32_t waiting;   /* in phase: the last DX words as they were heard, the
+                           latest in the low byte */
     uint8_t phase;      /* searching, or what the next slot is */
     uint8_t run;        /* searching: how many in a row alternate, 0 to 3 */
     uint8_t last;       /* searching, run over 0: the last of them, alpha or RQ */
