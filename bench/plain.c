@@ -1,6 +1,8 @@
-/* Radio-telex logic after ITU-R M.625, as narrowed by paper 01: see telex.h. */
+/* not proved: for comparison only */
 
-#include "telex.h"
+/* Radio-telex logic after ITU-R M.625, as narrowed by paper 01: see plain.h. */
+
+#include "plain.h"
 
 #include <string.h>
 
@@ -54,9 +56,18 @@ static const uint8_t MEANING[256] = {
 #undef LETTER
 #undef PLAIN
 
-uint8_t telex_meaning(uint8_t word)
+uint8_t plain_meaning(uint8_t word)
 {
     return MEANING[word];
+}
+
+unsigned plain_intact(uint8_t word)
+{
+    unsigned ones = 0;
+
+    for (unsigned unit = 0; unit < 7; unit++)
+        ones += word >> unit & 1u;
+    return word < 128 && ones == 4;
 }
 
 /* --- Text --- */
@@ -130,7 +141,7 @@ COLD static answer without_signal(const uint8_t *text)
     return refused(1, index);
 }
 
-answer telex_encode(const uint8_t *text, size_t length, unsigned start_case,
+answer plain_encode(const uint8_t *text, size_t length, unsigned start_case,
                     uint8_t *room, size_t room_length)
 {
     uint8_t own[2 * MOST_CHARACTERS];
@@ -224,7 +235,7 @@ static inline uint32_t print_in(const uint32_t *table, const uint8_t *words,
     return entry;
 }
 
-answer telex_print(const uint8_t *words, size_t length, unsigned start_case,
+answer plain_print(const uint8_t *words, size_t length, unsigned start_case,
                    uint8_t *room, size_t room_length)
 {
     uint8_t own[MOST_SIGNALS];
@@ -317,12 +328,12 @@ static inline uint32_t control(unsigned second)
     return WORD_CS1 + (WORD_CS2 - WORD_CS1) * second;
 }
 
-struct station telex_fresh_master(void)
+struct station plain_fresh_master(void)
 {
     return (struct station){ .place = PLACE_OPENING };
 }
 
-struct station telex_fresh_slave(void)
+struct station plain_fresh_slave(void)
 {
     return (struct station){ .place = PLACE_RECEIVING, .slave = 1 };
 }
@@ -396,7 +407,7 @@ COLD static uint32_t without_beta(uint32_t burst)
     return words;
 }
 
-step_answer telex_step(struct station *station, uint32_t burst, uint32_t offer)
+step_answer plain_step(struct station *station, uint32_t burst, uint32_t offer)
 {
     unsigned first = burst & 0xFF;
     unsigned second = station->second;
@@ -523,7 +534,7 @@ COLD static answer no_traffic(const uint8_t *text)
     return refused(3, index);
 }
 
-answer telex_slot(const uint8_t *text, size_t length, uint32_t number)
+answer plain_slot(const uint8_t *text, size_t length, uint32_t number)
 {
     uint32_t traffic, positions, slots, position, stretch;
 
@@ -585,7 +596,7 @@ static const uint16_t SETTLED[256] = {
 #undef SHIFTED
 #undef LETTER
 
-struct receiver telex_fresh_receiver(void)
+struct receiver plain_fresh_receiver(void)
 {
     return (struct receiver){ 0, PHASE_SEARCHING, 0, 0, 0 };
 }
@@ -619,13 +630,13 @@ static inline unsigned searches(struct receiver *receiver, unsigned word)
     return 0;
 }
 
-unsigned telex_receive(struct receiver *receiver, uint8_t word)
+unsigned plain_receive(struct receiver *receiver, uint8_t word)
 {
-    unsigned heard = INTACT[word];
     uint32_t waiting = receiver->waiting;
 
     if (receiver->phase == PHASE_RX) {
-        unsigned first = waiting >> 16 & 0xFF;
+        unsigned first = INTACT[waiting >> 16 & 0xFF];
+        unsigned heard = INTACT[word];
         unsigned both = first & heard;
         unsigned settled = first | heard;
 
@@ -638,11 +649,11 @@ unsigned telex_receive(struct receiver *receiver, uint8_t word)
         return prints(receiver, settled);
     }
     if (receiver->phase == PHASE_DX) {
-        waiting = waiting << 8 | heard;
+        waiting = waiting << 8 | word;
         if (UNLIKELY((waiting & 0xFFFF) == (WORD_ALPHA << 8 | WORD_ALPHA))) {
             receiver->phase = PHASE_SEARCHING;
             receiver->run = 0;
-            return prints(receiver, waiting >> 16 & 0xFF);
+            return prints(receiver, INTACT[waiting >> 16 & 0xFF]);
         }
         receiver->waiting = waiting;
         receiver->phase = PHASE_RX;

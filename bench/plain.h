@@ -1,4 +1,7 @@
-/* Radio-telex logic after ITU-R M.625 (SITOR), as narrowed by paper 01.
+/* not proved: for comparison only */
+
+/* Radio-telex logic after ITU-R M.625 (SITOR), as narrowed by paper 01.  The proved
+ * calls are in crates/; docs/COST.md says what this C is compared for.
  *
  * A word is a byte, the unit sent first in bit 0.  A burst is three words in a
  * uint32_t, the first word in the low byte, the top byte zero.
@@ -7,8 +10,8 @@
  * beside it.  A refusal changes nothing: no byte of a lent room, no field of a
  * station or receiver.  Answers are packed into 64 bits, so that they come back
  * in a register; the functions beside each call take them apart. */
-#ifndef TELEX_H
-#define TELEX_H
+#ifndef PLAIN_H
+#define PLAIN_H
 
 #include <stddef.h>
 #include <stdint.h>
@@ -31,7 +34,10 @@ static inline uint32_t burst_of(uint8_t first, uint8_t second, uint8_t third)
 /* --- The code --- */
 
 /* The number of the signal, 1 to 35; 0 for a mutilated word. */
-uint8_t telex_meaning(uint8_t word);
+uint8_t plain_meaning(uint8_t word);
+
+/* Whether the word is below 128 and has exactly four ones. */
+unsigned plain_intact(uint8_t word);
 
 /* --- Text, and the slots of mode B --- */
 
@@ -44,15 +50,15 @@ static inline unsigned answer_refusal(answer given) { return (uint8_t)(given >> 
 static inline unsigned answer_case(answer given) { return (unsigned)(given >> 40); }
 
 /* Refusals 5, 1, 2. */
-answer telex_encode(const uint8_t *text, size_t length, unsigned start_case,
+answer plain_encode(const uint8_t *text, size_t length, unsigned start_case,
                     uint8_t *room, size_t room_length);
 
 /* Refusals 7, 3, 2. */
-answer telex_print(const uint8_t *words, size_t length, unsigned start_case,
+answer plain_print(const uint8_t *words, size_t length, unsigned start_case,
                    uint8_t *room, size_t room_length);
 
 /* Refusals 7, 3, 6. */
-answer telex_slot(const uint8_t *text, size_t length, uint32_t number);
+answer plain_slot(const uint8_t *text, size_t length, uint32_t number);
 
 /* --- Mode A --- */
 
@@ -93,31 +99,31 @@ static inline uint32_t step_printed(step_answer given) { return given >> 32 & 0x
 static inline unsigned step_taken(step_answer given) { return (unsigned)(given >> 56); }
 static inline unsigned step_value(step_answer given) { return (unsigned)(given >> 56); }
 
-struct station telex_fresh_master(void);
-struct station telex_fresh_slave(void);     /* its first burst is CS1 */
+struct station plain_fresh_master(void);
+struct station plain_fresh_slave(void);     /* its first burst is CS1 */
 
 /* Refusals 4, 3. */
-step_answer telex_step(struct station *station, uint32_t burst, uint32_t offer);
+step_answer plain_step(struct station *station, uint32_t burst, uint32_t offer);
 
 /* --- The receiver of mode B --- */
 
 enum { PHASE_SEARCHING, PHASE_DX, PHASE_RX };
 
 struct receiver {
-    uint32_t waiting;   /* in phase: the last DX words, the latest in the low
-                           byte; 0 stands for a mutilated one */
+    uint32_t waiting;   /* in phase: the last DX words as they were heard, the
+                           latest in the low byte */
     uint8_t phase;      /* searching, or what the next slot is */
     uint8_t run;        /* searching: how many in a row alternate, 0 to 3 */
     uint8_t last;       /* searching, run over 0: the last of them, alpha or RQ */
     uint8_t printing;   /* in phase: 255 once printing has begun, before that 0 */
 };
 
-/* What telex_receive answers for refusal 4 0. */
+/* What plain_receive answers for refusal 4 0. */
 enum { RECEIVE_REFUSED = 0x400 };
 
-struct receiver telex_fresh_receiver(void);
+struct receiver plain_fresh_receiver(void);
 
 /* The signal printed, 255 for an error mark, 0 for none; or RECEIVE_REFUSED. */
-unsigned telex_receive(struct receiver *receiver, uint8_t word);
+unsigned plain_receive(struct receiver *receiver, uint8_t word);
 
 #endif

@@ -1,11 +1,13 @@
+/* not proved: for comparison only */
+
 /* The harness: standard input holds CALL N L, standard output gets one line, the
  * call's name and its check-sum.
  *
- *     gcc -std=c11 -O3 -march=x86-64 -Wall -Wextra -Wpedantic telex.c main.c -o bench
+ *     gcc -std=c11 -O3 -march=x86-64 -Wall -Wextra -Wpedantic plain.c plain_bench.c -o bench
  *     echo 2 1000 64 | ./bench
  */
 
-#include "telex.h"
+#include "plain.h"
 
 #include <inttypes.h>
 #include <stdio.h>
@@ -69,7 +71,7 @@ static uint32_t run_meaning(uint64_t times)
     for (size_t j = 0; j < 4096; j++)
         in[j] = (uint8_t)below(256);
     for (uint64_t i = 0; i < times; i++)
-        sum = mix(sum, telex_meaning(in[i % 4096]));
+        sum = mix(sum, plain_meaning(in[i % 4096]));
     return sum;
 }
 
@@ -90,14 +92,14 @@ static uint32_t run_encode(uint64_t times, size_t length)
     uint32_t sum = 0;
 
     memset(text, 'A', MOST_CHARACTERS + 1);
-    sum = mix_text(sum, telex_encode(text, MOST_CHARACTERS + 1, LETTERS_CASE, room, SIZE));
-    sum = mix_text(sum, telex_encode(none, 1, LETTERS_CASE, room, SIZE));
-    sum = mix_text(sum, telex_encode(three, 3, LETTERS_CASE, room, 2));
+    sum = mix_text(sum, plain_encode(text, MOST_CHARACTERS + 1, LETTERS_CASE, room, SIZE));
+    sum = mix_text(sum, plain_encode(none, 1, LETTERS_CASE, room, SIZE));
+    sum = mix_text(sum, plain_encode(three, 3, LETTERS_CASE, room, 2));
 
     for (size_t j = 0; j < length; j++)
         text[j] = ALPHABET[below(sizeof ALPHABET)];
     for (uint64_t i = 0; i < times; i++)
-        sum = mix_text(sum, telex_encode(text, length, i % 2, room, SIZE));
+        sum = mix_text(sum, plain_encode(text, length, i % 2, room, SIZE));
     return sum;
 }
 
@@ -108,9 +110,9 @@ static uint32_t run_print(uint64_t times, size_t length)
     uint32_t sum = 0;
 
     memset(text, 71, MOST_SIGNALS + 1);
-    sum = mix_text(sum, telex_print(text, MOST_SIGNALS + 1, LETTERS_CASE, room, SIZE));
-    sum = mix_text(sum, telex_print(none, 1, LETTERS_CASE, room, SIZE));
-    sum = mix_text(sum, telex_print(two, 2, LETTERS_CASE, room, 1));
+    sum = mix_text(sum, plain_print(text, MOST_SIGNALS + 1, LETTERS_CASE, room, SIZE));
+    sum = mix_text(sum, plain_print(none, 1, LETTERS_CASE, room, SIZE));
+    sum = mix_text(sum, plain_print(two, 2, LETTERS_CASE, room, 1));
 
     for (size_t j = 0; j < length; j++) {
         uint32_t b = below(33);
@@ -118,7 +120,7 @@ static uint32_t run_print(uint64_t times, size_t length)
         text[j] = b < 32 ? TRAFFIC[b] : WORD_ERROR;
     }
     for (uint64_t i = 0; i < times; i++)
-        sum = mix_text(sum, telex_print(text, length, i % 2, room, SIZE));
+        sum = mix_text(sum, plain_print(text, length, i % 2, room, SIZE));
     return sum;
 }
 
@@ -150,12 +152,12 @@ static uint32_t run_step(uint64_t times)
             offers[j] = offer_of(OFFER_NOTHING, 0);
     }
 
-    stations[0] = telex_fresh_master();
+    stations[0] = plain_fresh_master();
     stations[0].count = 32;
-    given = telex_step(&stations[0], 0, offer_of(OFFER_NOTHING, 0));
+    given = plain_step(&stations[0], 0, offer_of(OFFER_NOTHING, 0));
     sum = mix(mix(sum, step_refusal(given)), step_value(given));
-    stations[0] = telex_fresh_master();
-    given = telex_step(&stations[0], 0, offer_of(OFFER_TEXT, burst_of(0, 71, 71)));
+    stations[0] = plain_fresh_master();
+    given = plain_step(&stations[0], 0, offer_of(OFFER_TEXT, burst_of(0, 71, 71)));
     sum = mix(mix(sum, step_refusal(given)), step_value(given));
 
     for (uint64_t i = 0; i < times; i++) {
@@ -163,11 +165,11 @@ static uint32_t run_step(uint64_t times)
         struct station *hearer = &stations[j % 2];
 
         if (j % 256 == 0) {
-            stations[0] = telex_fresh_master();
-            stations[1] = telex_fresh_slave();
+            stations[0] = plain_fresh_master();
+            stations[1] = plain_fresh_slave();
             on_the_way = burst_of(WORD_CS1, 0, 0);
         }
-        given = telex_step(hearer, on_the_way & keeps[j], offers[j]);
+        given = plain_step(hearer, on_the_way & keeps[j], offers[j]);
         on_the_way = step_sent(given);
         sum = mix(sum, on_the_way);
         sum = mix(sum, step_printed(given)
@@ -185,15 +187,15 @@ static uint32_t run_slot(uint64_t times, size_t length)
     uint32_t sum = 0;
 
     memset(text, 71, MOST_SIGNALS + 1);
-    sum = mix_refusal(sum, telex_slot(text, MOST_SIGNALS + 1, 0));
-    sum = mix_refusal(sum, telex_slot(none, 1, 0));
+    sum = mix_refusal(sum, plain_slot(text, MOST_SIGNALS + 1, 0));
+    sum = mix_refusal(sum, plain_slot(none, 1, 0));
     draw_traffic(length);
-    given = telex_slot(text, length, UINT32_MAX);
+    given = plain_slot(text, length, UINT32_MAX);
     sum = mix_refusal(sum, given);
     slots = answer_value(given);
 
     for (uint64_t i = 0; i < times; i++) {
-        sum = mix(sum, answer_value(telex_slot(text, length, number)));
+        sum = mix(sum, answer_value(plain_slot(text, length, number)));
         if (++number == slots)
             number = 0;
     }
@@ -203,27 +205,27 @@ static uint32_t run_slot(uint64_t times, size_t length)
 static uint32_t run_receive(uint64_t times)
 {
     static uint8_t stream[256];
-    struct receiver receiver = telex_fresh_receiver();
+    struct receiver receiver = plain_fresh_receiver();
     uint32_t slots;
     uint32_t index = 0;
     unsigned printed;
     uint32_t sum = 0;
 
     draw_traffic(40);
-    slots = answer_value(telex_slot(text, 40, UINT32_MAX));     /* 150 */
+    slots = answer_value(plain_slot(text, 40, UINT32_MAX));     /* 150 */
     for (uint32_t k = 0; k < slots; k++) {
-        stream[k] = (uint8_t)answer_value(telex_slot(text, 40, k));
+        stream[k] = (uint8_t)answer_value(plain_slot(text, 40, k));
         if (below(16) == 0)
             stream[k] = 0;
     }
 
     receiver.run = 4;
-    printed = telex_receive(&receiver, 0);
+    printed = plain_receive(&receiver, 0);
     sum = mix(mix(sum, printed >> 8), printed & 0xFF);
 
-    receiver = telex_fresh_receiver();
+    receiver = plain_fresh_receiver();
     for (uint64_t i = 0; i < times; i++) {
-        sum = mix(sum, telex_receive(&receiver, stream[index]));
+        sum = mix(sum, plain_receive(&receiver, stream[index]));
         if (++index == slots)
             index = 0;
     }
