@@ -3,7 +3,7 @@
 --     after-four       after four of them comes Stand-by
 --     standby-silent   Stand-by stays, silent
 -- Assumes nothing.
-use mathlib.Core.Path.{_≡_, refl, ap, sym, subst, _∙_}
+use mathlib.Core.Path.{_≡_, refl, ap, sym, _∙_}
 use mathlib.Core.Bool.{Bool, true, false, _&&_}
 use mathlib.Core.List.{[], _∷_}
 use Prim.Native.Nat.{ℕ, suc, _+_, _≤_}
@@ -31,7 +31,7 @@ use Rattle.mode_a.specs.declared.Reply.{Reply}
 use Rattle.mode_a.specs.Station.{listOf, single, silence, ααα, other, same, asksFor}
 use Rattle.mode_a.specs.Heard.{First, Cs, Cs3, Rq, Else, Heard, heardOf, mayHold, isWords}
 use Rattle.mode_a.specs.Over.{listenedAll}
-use Rattle.mode_a.specs.Rows.{rowOf, requests, sending, turnCompleted, turningElse, turning, opening, endsAgain, ending, receiving, asking}
+use Rattle.mode_a.specs.Rows.{rowOf, requests, sending, turnCompleted, turningElse, opening, endsAgain, ending}
 use Rattle.mode_a.specs.Step.{done, repeats, takes, accepts, acceptsBy, isOver, offered, soundPlace, stepping}
 use Rattle.counts.proofs.StepLaws.{never, Answers, answers}
 

@@ -8,7 +8,6 @@ use Prim.Native.Nat.{ℕ, zero, suc, _+_, _*_, _/_, _%_, _<_, _≤_}
 use native.Mathlib.Omega.{arith}
 use lib.ListN.{length, getD, replicate, length-append, length-replicate}
 use lib.Seq.{ext-getD}
-use Rattle.signals.specs.Meaning.{alpha}
 use Rattle.mode_b.specs.Sender.{Position, phasing, idle, dxOf, rxOf, carriageReturn, lineFeed, withBreaks, positionsOf, slotsFrom, slotsOf, SentTwice}
 
 -- two slots a position

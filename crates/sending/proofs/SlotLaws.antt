@@ -5,18 +5,18 @@ use mathlib.Core.List.{List, [], _∷_, _++_, append-assoc}
 use Prim.Native.Nat.{ℕ, zero, suc, _+_, _*_, _-_, _/_, _%_, _<_, _≤_}
 use native.Mathlib.Omega.{arith}
 use lib.Dec.{ltb}
-use lib.ListN.{length, getD, replicate, length-append, length-replicate, getD-replicate, List·getD-append, List·getD-eq-default}
+use lib.ListN.{length, getD, replicate, length-append, length-replicate, getD-replicate, List·getD-append}
 use lib.Seq.{getD-append-add}
 use borrow.Author.Tests.{lt-ltb, le-ltb, ltb-true, ltb-false}
 use Rattle.laws.specs.Choice.{if_then_else_}
 use Rattle.signals.specs.Meaning.{trafficOf, alpha}
-use Rattle.signals.specs.Numbers.{Answer, answered, refused, firstNot}
+use Rattle.signals.specs.Numbers.{firstNot}
 use Rattle.mode_b.specs.declared.Slot.{Slot}
-use Rattle.mode_b.specs.Sender.{Position, phasing, signal, idle, dxOf, rxOf, withBreaks, positionsOf, slotsOf, slotting, Slots}
+use Rattle.mode_b.specs.Sender.{Position, phasing, idle, dxOf, rxOf, withBreaks, positionsOf, slotsOf, slotting, Slots}
 use Rattle.mode_b.proofs.SlotLaws.{sent-twice}
 use Rattle.sending.specs.declared.At.{At}
 use Rattle.sending.specs.Places.{sentText, countOf, inGroup, atOf, byAt}
-use Rattle.sending.proofs.BreakLaws.{placeOf, placeIn, place-at, place-count}
+use Rattle.sending.proofs.BreakLaws.{placeOf, place-at, place-count}
 
 -- what is behind the traffic positions is α, and so is what is behind the last
 idle-behind : (ps : List Position) (n q : ℕ) → getD (ps ++ replicate n idle) q idle ≡ getD ps q idle

@@ -7,7 +7,6 @@
 use mathlib.Core.Path.{_≡_, refl, ap, sym, _∙_}
 use mathlib.Core.Bool.{Bool, true, false}
 use mathlib.Core.Logic.{_↔_}
-use Prim.Native.Nat.{ℕ}
 use Rattle.laws.specs.Choice.{if_then_else_}
 use Rattle.signals.specs.Meaning.{meaningOf, trafficOf, beta, rq, cs1, cs2, cs3}
 use Rattle.mode_a.specs.declared.Role.{Role}
