@@ -6,7 +6,7 @@ use native.Mathlib.Omega.{arith}
 use lib.ListN.{length}
 use borrow.Author.Needs.{needs}
 use Rattle.printing.specs.Run.{Going}
-use Rattle.printing.proofs.RunLaws.{run-starts, run-length, run-ends, run-stops, run-silent, run-room, run-prints}
+use Rattle.printing.proofs.RunLaws.{stands, going-starts, going-length, run-ends, run-stops, run-silent, run-room, run-prints}
 use Rattle.printing.proofs.print_run.Statement.{statement}
 use Rattle.printing.proofs.print_run.Tie as tie
 use Rattle.printing.proofs.print_run.Reads as reads
@@ -14,7 +14,7 @@ use Rattle.printing.proofs.print_run.Lts as lts
 use Rattle.printing.proofs.leaving.Reads as leaving-reads
 
 abbrev Inv-loop : tie.InvT-loop
-Inv-loop case table words at room₀ to i₀ next₀ room i next = Going case words at room₀ to i next room
+Inv-loop case table words at room₀ to i₀ next₀ room i next = Going case words at room₀ to (stands i next case) room
 
 abbrev μ-loop : tie.MeasureT-loop
 μ-loop case table words at room₀ to i₀ next₀ room i next = length words - i
@@ -22,7 +22,7 @@ abbrev μ-loop : tie.MeasureT-loop
 loop-holds : tie.Need-loop-holds Inv-loop μ-loop
 loop-holds c =
     let a = c .before .before in
-    run-starts (a .args .case) (a .args .words .now) (a .args .at) (a .args .room .now) (a .args .to) (a .pre .1)
+    going-starts (a .args .case) (a .args .words .now) (a .args .at) (a .args .room .now) (a .args .to) (a .pre .1)
 
 shared-slice-read-word : tie.Need-shared-slice-read-word Inv-loop μ-loop
 shared-slice-read-word c = omega arith
@@ -42,7 +42,7 @@ same-length : tie.Need-same-length Inv-loop μ-loop
 same-length c =
     let a = c .before .before .before .before .before .before .before .before .before in
     let l = c .before .before .before .before .before .before .loop in
-    run-length (a .args .case) (a .args .words .now) (a .args .at) (a .args .room .now) (a .args .to) (l .i) (l .next) (l .room) (l .inv)
+    going-length (a .args .case) (a .args .words .now) (a .args .at) (a .args .room .now) (a .args .to) (stands (l .i) (l .next) (a .args .case)) (l .room) (l .inv)
 
 returns : tie.Need-returns Inv-loop μ-loop
 returns c =
@@ -60,7 +60,7 @@ add-next : tie.Need-add-next Inv-loop μ-loop
 add-next c =
     let a = c .before .before .before .before .before .before .before in
     let l = c .before .before .before .before .loop in
-    omega (arith, run-length (a .args .case) (a .args .words .now) (a .args .at) (a .args .room .now) (a .args .to) (l .i) (l .next) (l .room) (l .inv), run-room (a .args .case) (a .args .words .now) (a .args .at) (a .args .room .now) (a .args .to) (l .i) (l .next) (l .room) (l .inv) (c .before .before .before .loop-test .taken) (c .before .before .shared-slice-known2 .given (l .i) .fits) (a .args .table .now) (a .pre .0) (c .if1 .left) (a .pre .2))
+    omega (arith, going-length (a .args .case) (a .args .words .now) (a .args .at) (a .args .room .now) (a .args .to) (stands (l .i) (l .next) (a .args .case)) (l .room) (l .inv), run-room (a .args .case) (a .args .words .now) (a .args .at) (a .args .room .now) (a .args .to) (l .i) (l .next) (l .room) (l .inv) (c .before .before .before .loop-test .taken) (c .before .before .shared-slice-known2 .given (l .i) .fits) (a .args .table .now) (a .pre .0) (c .if1 .left) (a .pre .2))
 
 add-i : tie.Need-add-i Inv-loop μ-loop
 add-i c = omega arith
@@ -83,7 +83,7 @@ same-length-2 : tie.Need-same-length-2 Inv-loop μ-loop
 same-length-2 c =
     let a = c .before .before .before .before in
     let l = c .before .loop in
-    run-length (a .args .case) (a .args .words .now) (a .args .at) (a .args .room .now) (a .args .to) (l .i) (l .next) (l .room) (l .inv)
+    going-length (a .args .case) (a .args .words .now) (a .args .at) (a .args .room .now) (a .args .to) (stands (l .i) (l .next) (a .args .case)) (l .room) (l .inv)
 
 returns-2 : tie.Need-returns-2 Inv-loop μ-loop
 returns-2 c =
