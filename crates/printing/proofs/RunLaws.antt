@@ -50,7 +50,7 @@ stays Figures w f = rw (ne-eqb w letters f) (same (eqb w figures))
     same false = refl
 
 -- what the table's glyph says of a word
-module _ (c : Case) (w : ℕ) (byte : w < 256) (t : List ℕ) (gs : GlyphsOf c t) where
+module _ {c : Case} {w : ℕ} (byte : w < 256) {t : List ℕ} (gs : GlyphsOf c t) where
   silent : getD t w 0 ≡ 0 → bytesOf c w ≡ []
   silent z = sym (glyph-prints c w byte) ∙ put-none _ (sym (gs .at w byte) ∙ z)
 
@@ -68,8 +68,8 @@ abbrev pub stands : ℕ → ℕ → Case → Reached
 stands at to c = record { at = at; to = to; case = c }
 
 -- one word
-module _ (c : Case) (ws : List ℕ) (at : ℕ) (h : at < length ws) (out : List ℕ) (to : ℕ) where
-  module _ (d : Case) (e : caseAt c (getD ws at 0) ≡ d) where
+module _ {c : Case} {ws : List ℕ} {at : ℕ} (h : at < length ws) {out : List ℕ} {to : ℕ} where
+  module _ {d : Case} (e : caseAt c (getD ws at 0) ≡ d) where
     pub word-silent : bytesOf c (getD ws at 0) ≡ [] → Going c ws at out to (stands (at + 1) to d) out
     word-silent z =
         record {
@@ -81,8 +81,8 @@ module _ (c : Case) (ws : List ℕ) (at : ℕ) (h : at < length ws) (out : List 
           ends = ends-next printed endsPrinted bytesOf caseAt printed-walk ws at h c ∙ rw e;
         }
 
-    pub word-prints : (g : ℕ) → bytesOf c (getD ws at 0) ≡ g ∷ [] → Going c ws at out to (stands (at + 1) (to + 1) d) (set out to g)
-    word-prints g z =
+    pub word-prints : {g : ℕ} → bytesOf c (getD ws at 0) ≡ g ∷ [] → Going c ws at out to (stands (at + 1) (to + 1) d) (set out to g)
+    word-prints {g} z =
         record {
           from = omega arith;
           within = omega arith;
@@ -94,9 +94,9 @@ module _ (c : Case) (ws : List ℕ) (at : ℕ) (h : at < length ws) (out : List 
 
   -- the shift hands on to the other case
   word-shifts : getD ws at 0 ≡ leaving c → Going c ws at out to (stands (at + 1) to (other c)) out
-  word-shifts e = word-silent (other c) (rw e (shift-hands-on c)) (rw e (shift-prints c))
+  word-shifts e = word-silent (rw e (shift-hands-on c)) (rw e (shift-prints c))
 
-module _ (c : Case) (ws : List ℕ) (at : ℕ) (out : List ℕ) (to : ℕ) where
+module _ {c : Case} {ws : List ℕ} {at : ℕ} {out : List ℕ} {to : ℕ} where
   pub going-starts : at ≤ length ws → Going c ws at out to (stands at to c) out
   going-starts h =
       record {
@@ -108,7 +108,7 @@ module _ (c : Case) (ws : List ℕ) (at : ℕ) (out : List ℕ) (to : ℕ) where
         ends = refl;
       }
 
-  module _ (r : Reached) (mid : List ℕ) (g : Going c ws at out to r mid) where
+  module _ {r : Reached} {mid : List ℕ} (g : Going c ws at out to r mid) where
     pub going-length : length mid ≡ length out
     going-length = ap (λ (l : List ℕ). length l) (g .wrote .holds) ∙ length-sets out to (g .put)
 
@@ -122,8 +122,8 @@ module _ (c : Case) (ws : List ℕ) (at : ℕ) (out : List ℕ) (to : ℕ) where
           ap (λ (l : List ℕ). length l) (g .parted) ∙ length-append (g .put) (printed (r .case) (drop (r .at) ws)),
         )
 
-    pub going-then : (s : Reached) (after : List ℕ) → Going (r .case) ws (r .at) mid (r .to) s after → Going c ws at out to s after
-    going-then s after n =
+    pub going-then : {s : Reached} {after : List ℕ} → Going (r .case) ws (r .at) mid (r .to) s after → Going c ws at out to s after
+    going-then {s} {after} n =
         record {
           from = omega (arith, g .from, n .from);
           within = n .within;
@@ -134,7 +134,7 @@ module _ (c : Case) (ws : List ℕ) (at : ℕ) (out : List ℕ) (to : ℕ) where
         }
 
   -- within a run
-  module _ (i next : ℕ) (mid : List ℕ) (g : Going c ws at out to (stands i next c) mid) where
+  module _ {i next : ℕ} {mid : List ℕ} (g : Going c ws at out to (stands i next c) mid) where
     pub run-ends : length ws ≤ i → Ran c ws at out to (stands i next c) mid
     run-ends h = record { run = g; same = refl; stopped = inl (omega (arith, g .within)) }
 
@@ -142,35 +142,30 @@ module _ (c : Case) (ws : List ℕ) (at : ℕ) (out : List ℕ) (to : ℕ) where
       pub run-stops : getD ws i 0 ≡ leaving c → Ran c ws at out to (stands i next c) mid
       run-stops e = record { run = g; same = refl; stopped = inr (h, e) }
 
-      module _ (byte : getD ws i 0 < 256) (t : List ℕ) (gs : GlyphsOf c t) where
+      module _ (byte : getD ws i 0 < 256) {t : List ℕ} (gs : GlyphsOf c t) where
         pub run-silent : getD t (getD ws i 0) 0 ≡ 0 → (getD ws i 0 ≡ leaving c → ⊥) → Going c ws at out to (stands (i + 1) next c) mid
         run-silent z stay =
-            going-then (stands i next c) mid g (stands (i + 1) next c) mid
-            (word-silent c ws i h mid next c (stays c (getD ws i 0) stay) (silent c (getD ws i 0) byte t gs z))
+            going-then g (word-silent h (stays c (getD ws i 0) stay) (silent byte gs z))
 
         module _ (f : getD t (getD ws i 0) 0 ≡ 0 → ⊥) where
           here : Going c ws i mid next (stands (i + 1) (next + 1) c) (set mid next (getD t (getD ws i 0) 0))
           here =
-              word-prints c ws i h mid next c
-              (stays c (getD ws i 0) (no-shift c (getD ws i 0) byte t gs f))
-              (getD t (getD ws i 0) 0)
-              (one c (getD ws i 0) byte t gs f)
+              word-prints h (stays c (getD ws i 0) (no-shift byte gs f)) (one byte gs f)
 
           pub run-prints : Going c ws at out to (stands (i + 1) (next + 1) c) (set mid next (getD t (getD ws i 0) 0))
-          run-prints = going-then (stands i next c) mid g (stands (i + 1) (next + 1) c) _ here
+          run-prints = going-then g here
 
           pub run-room : to + length (printed c (drop at ws)) ≤ length out → next < length mid
           run-room l =
               omega (
                 arith,
-                going-room (stands i next c) mid g l,
-                going-room (stands (i + 1) (next + 1) c) _ run-prints l,
-                going-length (stands i next c) mid g,
-                going-length (stands (i + 1) (next + 1) c) _ run-prints,
+                going-length g,
+                going-length run-prints,
+                going-room run-prints l,
               )
 
   -- after the run
-  module _ (r : Reached) (mid : List ℕ) (ran : Ran c ws at out to r mid) where
+  module _ {r : Reached} {mid : List ℕ} (ran : Ran c ws at out to r mid) where
     -- no word is left
     pub ran-all : r .at ≡ length ws → Reaches c ws at out to r mid
     ran-all e = record { going = ran .run; on = λ h. omega arith }
@@ -187,22 +182,21 @@ module _ (c : Case) (ws : List ℕ) (at : ℕ) (out : List ℕ) (to : ℕ) where
       ran-on =
           record {
             going =
-                going-then r mid (ran .run) (stands (r .at + 1) (r .to) (other c)) mid
-                (rw (ran .same) (word-shifts c ws (r .at) ran-before mid (r .to) shift));
+                going-then (ran .run) (rw (ran .same) (word-shifts ran-before shift));
             on = λ h. omega (arith, ran .run .from);
           }
 
   -- one run after the other
-  pub reaches-then : (r : Reached) (mid : List ℕ) → Reaches c ws at out to r mid → (s : Reached) (after : List ℕ) → Reaches (r .case) ws (r .at) mid (r .to) s after → Reaches c ws at out to s after
-  reaches-then r mid a s after b =
+  pub reaches-then : {r s : Reached} {mid after : List ℕ} → Reaches c ws at out to r mid → Reaches (r .case) ws (r .at) mid (r .to) s after → Reaches c ws at out to s after
+  reaches-then a b =
       record {
-        going = going-then r mid (a .going) s after (b .going);
+        going = going-then (a .going) (b .going);
         on = λ h. omega (arith, a .on h, b .going .from);
       }
 
 -- no word is left
-pub going-all : (c : Case) (ws out : List ℕ) (r : Reached) (after : List ℕ) → Going c ws 0 out 0 r after → length ws ≤ r .at → Typed c ws out r after
-going-all c ws out r after g h =
+pub going-all : {c : Case} {ws out : List ℕ} {r : Reached} {after : List ℕ} → Going c ws 0 out 0 r after → length ws ≤ r .at → Typed c ws out r after
+going-all {c} {ws} {r = r} g h =
     let e : r .at ≡ length ws = omega (arith, g .within) in
     let all : printed c ws ≡ g .put = g .parted ∙ rw (e, all-end printed endsPrinted bytesOf caseAt printed-walk (r .case) ws) (append-nil (g .put)) in
     record {

@@ -247,11 +247,7 @@ fn write(words: &[u8], case: Case, room: &mut [u8]) -> Reached
 {
     let letters = glyphs(Case::Letters);
     let figures = glyphs(Case::Figures);
-    let mut stands = Reached {
-        at: 0,
-        to: 0,
-        case,
-    };
+    let mut stands = Reached { at: 0, to: 0, case };
     while stands.at < words.len() {
         let at = stands.at;
         let to = stands.to;
