@@ -167,23 +167,19 @@ module _ {c : Case} {ws : List ℕ} {at : ℕ} {out : List ℕ} {to : ℕ} where
   -- after the run
   module _ {r : Reached} {mid : List ℕ} (ran : Ran c ws at out to r mid) where
     -- no word is left
-    pub ran-all : r .at ≡ length ws → Reaches c ws at out to r mid
-    ran-all e = record { going = ran .run; on = λ h. omega arith }
+    pub ran-all : length ws ≤ r .at → Reaches c ws at out to r mid
+    ran-all h = record { going = ran .run; on = λ l. omega arith }
 
     -- a shift follows, and is passed
-    module _ (f : r .at ≡ length ws → ⊥) where
-      pub ran-before : r .at < length ws
-      ran-before = omega (arith, ran .run .within)
-
+    module _ (h : r .at < length ws) where
       shift : getD ws (r .at) 0 ≡ leaving c
-      shift = ⊎-elim (λ e. absurd (f e)) (λ s. s .1) (ran .stopped)
+      shift = ⊎-elim (λ e. absurd (omega arith)) (λ s. s .1) (ran .stopped)
 
       pub ran-on : Reaches c ws at out to (stands (r .at + 1) (r .to) (other c)) mid
       ran-on =
           record {
-            going =
-                going-then (ran .run) (rw (ran .same) (word-shifts ran-before shift));
-            on = λ h. omega (arith, ran .run .from);
+            going = going-then (ran .run) (rw (ran .same) (word-shifts h shift));
+            on = λ l. omega (arith, ran .run .from);
           }
 
   -- one run after the other

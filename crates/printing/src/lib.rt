@@ -24,7 +24,7 @@ const STAR: u8 = 42;
 const BLANK: u8 = 106;
 
 // How deep the two printing functions call each other before they return to the loop of `write`.
-const DEPTH: u8 = 3;
+const DEPTH: u8 = 2;
 
 // Where printing stands: the next word, the place past the last byte, and the case in force.
 pub struct Reached {
@@ -198,7 +198,7 @@ fn print_letters(
     ensures { λ r. ⌜ Reaches Letters (now (words .entry)) at (now (room .entry)) to r (now (room .exit)) ⌝ }
 {
     let run = print_run(Case::Letters, letters, words, at, room, to);
-    if run.at == words.len() {
+    if words.len() <= run.at {
         return run;
     }
     let past = run.at + 1;
@@ -226,7 +226,7 @@ fn print_figures(
     ensures { λ r. ⌜ Reaches Figures (now (words .entry)) at (now (room .entry)) to r (now (room .exit)) ⌝ }
 {
     let run = print_run(Case::Figures, figures, words, at, room, to);
-    if run.at == words.len() {
+    if words.len() <= run.at {
         return run;
     }
     let past = run.at + 1;

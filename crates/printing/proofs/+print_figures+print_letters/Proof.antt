@@ -4,7 +4,7 @@ use mathlib.Core.Path.{_∙_}
 use Prim.Native.Nat.{ℕ, _<_, _-_}
 use native.Mathlib.Omega.{arith}
 use lib.ListN.{length}
-use Rattle.printing.proofs.RunLaws.{going-room, ran-all, ran-before, ran-on, reaches-then}
+use Rattle.printing.proofs.RunLaws.{going-room, ran-all, ran-on, reaches-then}
 use borrow.Fn.Kinds.{In}
 use borrow.Fn.PlainCycle.{Measures, is, falls, and}
 use Rattle.printing.proofs.print_figures.Reads as print-figures
@@ -66,7 +66,7 @@ print-figures-returns : (t : ℕ) → print-figures-lts.Need-returns (print-figu
 print-figures-returns t c = ran-all (c .before .before .before .before .print-run .ensures) (c .if1 .taken)
 
 print-figures-add-past : (t : ℕ) → print-figures-lts.Need-add-past (print-figures-rests t) (print-figures-at t) print-figures.Post
-print-figures-add-past t c = omega (arith, ran-before (c .before .before .before .before .before .print-run .ensures) (c .before .if1 .left))
+print-figures-add-past t c = omega arith
 
 print-figures-same-length-2 : (t : ℕ) → print-figures-lts.Need-same-length-2 (print-figures-rests t) (print-figures-at t) print-figures.Post
 print-figures-same-length-2 t c = c .before .before .before .before .before .before .print-run .kept .1 .1 .1 .1 .0
@@ -81,8 +81,7 @@ print-figures-print-letters-requires : (t : ℕ) → print-figures-lts.Need-prin
 print-figures-print-letters-requires t c κs =
     let a = c .before .before .before .before .before .before .before .before .before .before .before in
     let on = ran-on (c .before .before .before .before .before .before .before .print-run .ensures) (c .before .before .before .if1 .left) in
-    let h = ran-before (c .before .before .before .before .before .before .before .print-run .ensures) (c .before .before .before .if1 .left) in
-    (omega (arith, a .pre .0, c .before .before .before .before .before .before .before .print-run .ensures .run .from), (a .pre .1 .0, a .pre .1 .1, omega arith, going-room (on .going) (a .pre .1 .3)))
+    (omega (arith, a .pre .0, c .before .before .before .if1 .left, c .before .before .before .before .before .before .before .print-run .ensures .run .from), (a .pre .1 .0, a .pre .1 .1, on .going .within, going-room (on .going) (a .pre .1 .3)))
 
 print-figures-same-length-3 : (t : ℕ) → print-figures-lts.Need-same-length-3 (print-figures-rests t) (print-figures-at t) print-figures.Post
 print-figures-same-length-3 t c = c .before .before .print-letters .kept .1 .1 .1 .1 .0 ∙ c .before .before .before .before .before .before .before .before .before .before .print-run .kept .1 .1 .1 .1 .0
@@ -102,7 +101,7 @@ print-letters-returns : (t : ℕ) → print-letters-lts.Need-returns (print-lett
 print-letters-returns t c = ran-all (c .before .before .before .before .print-run .ensures) (c .if1 .taken)
 
 print-letters-add-past : (t : ℕ) → print-letters-lts.Need-add-past (print-letters-rests t) (print-letters-at t) print-letters.Post
-print-letters-add-past t c = omega (arith, ran-before (c .before .before .before .before .before .print-run .ensures) (c .before .if1 .left))
+print-letters-add-past t c = omega arith
 
 print-letters-same-length-2 : (t : ℕ) → print-letters-lts.Need-same-length-2 (print-letters-rests t) (print-letters-at t) print-letters.Post
 print-letters-same-length-2 t c = c .before .before .before .before .before .before .print-run .kept .1 .1 .1 .1 .0
@@ -117,8 +116,7 @@ print-letters-print-figures-requires : (t : ℕ) → print-letters-lts.Need-prin
 print-letters-print-figures-requires t c κs =
     let a = c .before .before .before .before .before .before .before .before .before .before .before in
     let on = ran-on (c .before .before .before .before .before .before .before .print-run .ensures) (c .before .before .before .if1 .left) in
-    let h = ran-before (c .before .before .before .before .before .before .before .print-run .ensures) (c .before .before .before .if1 .left) in
-    (omega (arith, a .pre .0, c .before .before .before .before .before .before .before .print-run .ensures .run .from), (a .pre .1 .0, a .pre .1 .1, omega arith, going-room (on .going) (a .pre .1 .3)))
+    (omega (arith, a .pre .0, c .before .before .before .if1 .left, c .before .before .before .before .before .before .before .print-run .ensures .run .from), (a .pre .1 .0, a .pre .1 .1, on .going .within, going-room (on .going) (a .pre .1 .3)))
 
 print-letters-same-length-3 : (t : ℕ) → print-letters-lts.Need-same-length-3 (print-letters-rests t) (print-letters-at t) print-letters.Post
 print-letters-same-length-3 t c = c .before .before .print-figures .kept .1 .1 .1 .1 .0 ∙ c .before .before .before .before .before .before .before .before .before .before .print-run .kept .1 .1 .1 .1 .0
