@@ -1,4 +1,4 @@
--- A run, word by word, and what follows it: one law over the case. Assumes nothing.
+-- A word, the run, and one run after the other: each law over the case. Assumes nothing.
 use mathlib.Core.Path.{_≡_, refl, ap, sym, _∙_}
 use mathlib.Core.Bool.{Bool, true, false}
 use mathlib.Core.Logic.{_⊎_, inl, inr, ⊎-elim}
@@ -19,10 +19,9 @@ use Rattle.text.specs.Printing.{bytesOf, caseAt, printed, endsPrinted}
 use Rattle.text.specs.Shifts.{shiftTo, other}
 use Rattle.text.proofs.WalkLaws.{all-next, all-end, ends-next, ends-end}
 use Rattle.text.proofs.PrintingLaws.{printed-walk}
-use Rattle.printing.specs.declared.Stop.{Stop}
-use Rattle.printing.specs.declared.End.{End}
+use Rattle.printing.specs.declared.Reached.{Reached}
 use Rattle.printing.specs.Glyph.{GlyphsOf}
-use Rattle.printing.specs.Run.{Going, Ran, Typed}
+use Rattle.printing.specs.Run.{Going, Ran, Reaches, Typed}
 use Rattle.printing.proofs.GlyphLaws.{glyph-prints, put-none, put-one}
 
 -- the shift that leaves a case
@@ -51,7 +50,7 @@ stays Figures w f = rw (ne-eqb w letters f) (same (eqb w figures))
     same false = refl
 
 -- what the table's glyph says of a word
-module _ (c : Case) (w : ℕ) (byte : w < 256) (t : List ℕ) (gs : GlyphsOf c t) where
+module _ {c : Case} {w : ℕ} (byte : w < 256) {t : List ℕ} (gs : GlyphsOf c t) where
   silent : getD t w 0 ≡ 0 → bytesOf c w ≡ []
   silent z = sym (glyph-prints c w byte) ∙ put-none _ (sym (gs .at w byte) ∙ z)
 
@@ -65,9 +64,41 @@ module _ (c : Case) (w : ℕ) (byte : w < 256) (t : List ℕ) (gs : GlyphsOf c t
       let z : _≡_ {A = ℕ} 0 1 = cc in
       omega arith
 
-module _ (c : Case) (ws : List ℕ) (at : ℕ) (out : List ℕ) (to : ℕ) where
-  pub run-starts : at ≤ length ws → Going c ws at out to at to out
-  run-starts h =
+abbrev pub stands : ℕ → ℕ → Case → Reached
+stands at to c = record { at = at; to = to; case = c }
+
+-- one word
+module _ {c : Case} {ws : List ℕ} {at : ℕ} (h : at < length ws) {out : List ℕ} {to : ℕ} where
+  module _ {d : Case} (e : caseAt c (getD ws at 0) ≡ d) where
+    pub word-silent : bytesOf c (getD ws at 0) ≡ [] → Going c ws at out to (stands (at + 1) to d) out
+    word-silent z =
+        record {
+          from = omega arith;
+          within = omega arith;
+          put = [];
+          parted = all-next printed endsPrinted bytesOf caseAt printed-walk ws at h c ∙ rw (z, e);
+          wrote = record { ended = sym (add-zero to); holds = refl };
+          ends = ends-next printed endsPrinted bytesOf caseAt printed-walk ws at h c ∙ rw e;
+        }
+
+    pub word-prints : {g : ℕ} → bytesOf c (getD ws at 0) ≡ g ∷ [] → Going c ws at out to (stands (at + 1) (to + 1) d) (set out to g)
+    word-prints {g} z =
+        record {
+          from = omega arith;
+          within = omega arith;
+          put = g ∷ [];
+          parted = all-next printed endsPrinted bytesOf caseAt printed-walk ws at h c ∙ rw (z, e);
+          wrote = record { ended = refl; holds = refl };
+          ends = ends-next printed endsPrinted bytesOf caseAt printed-walk ws at h c ∙ rw e;
+        }
+
+  -- the shift hands on to the other case
+  word-shifts : getD ws at 0 ≡ leaving c → Going c ws at out to (stands (at + 1) to (other c)) out
+  word-shifts e = word-silent (rw e (shift-hands-on c)) (rw e (shift-prints c))
+
+module _ {c : Case} {ws : List ℕ} {at : ℕ} {out : List ℕ} {to : ℕ} where
+  pub going-starts : at ≤ length ws → Going c ws at out to (stands at to c) out
+  going-starts h =
       record {
         from = omega arith;
         within = h;
@@ -77,102 +108,95 @@ module _ (c : Case) (ws : List ℕ) (at : ℕ) (out : List ℕ) (to : ℕ) where
         ends = refl;
       }
 
-  module _ (i next : ℕ) (mid : List ℕ) (g : Going c ws at out to i next mid) where
-    pub run-length : length mid ≡ length out
-    run-length = ap (λ (l : List ℕ). length l) (g .wrote .holds) ∙ length-sets out to (g .put)
+  module _ {r : Reached} {mid : List ℕ} (g : Going c ws at out to r mid) where
+    pub going-length : length mid ≡ length out
+    going-length = ap (λ (l : List ℕ). length l) (g .wrote .holds) ∙ length-sets out to (g .put)
 
-    -- the run's bytes and the rest's are all of them
-    run-total : length (printed c (drop at ws)) ≡ length (g .put) + length (printed c (drop i ws))
-    run-total = ap (λ (l : List ℕ). length l) (g .parted) ∙ length-append (g .put) (printed c (drop i ws))
+    -- where there was room for all, there is for the rest
+    pub going-room : to + length (printed c (drop at ws)) ≤ length out → r .to + length (printed (r .case) (drop (r .at) ws)) ≤ length mid
+    going-room l =
+        omega (
+          arith,
+          going-length,
+          g .wrote .ended,
+          ap (λ (l : List ℕ). length l) (g .parted) ∙ length-append (g .put) (printed (r .case) (drop (r .at) ws)),
+        )
 
-    pub run-ends : length ws ≤ i → Ran c ws at out to (record { at = i; to = next }) mid
-    run-ends h = record { run = g; stopped = inl (omega (arith, g .within)) }
-
-    module _ (h : i < length ws) where
-      pub run-stops : getD ws i 0 ≡ leaving c → Ran c ws at out to (record { at = i; to = next }) mid
-      run-stops e = record { run = g; stopped = inr (h, e) }
-
-      module _ (stay : getD ws i 0 ≡ leaving c → ⊥) where
-        rest : printed c (drop i ws) ≡ bytesOf c (getD ws i 0) ++ printed c (drop (i + 1) ws)
-        rest = all-next printed endsPrinted bytesOf caseAt printed-walk ws i h c ∙ rw (stays c (getD ws i 0) stay)
-
-        rest-ends : endsPrinted c (drop i ws) ≡ endsPrinted c (drop (i + 1) ws)
-        rest-ends = ends-next printed endsPrinted bytesOf caseAt printed-walk ws i h c ∙ rw (stays c (getD ws i 0) stay)
-
-      module _ (byte : getD ws i 0 < 256) (t : List ℕ) (gs : GlyphsOf c t) where
-        pub run-silent : getD t (getD ws i 0) 0 ≡ 0 → (getD ws i 0 ≡ leaving c → ⊥) → Going c ws at out to (i + 1) next mid
-        run-silent z stay =
-            record {
-              from = omega (arith, g .from);
-              within = omega arith;
-              put = g .put;
-              parted = g .parted ∙ ap (λ (l : List ℕ). g .put ++ l) (rest stay ∙ rw (silent c (getD ws i 0) byte t gs z));
-              wrote = g .wrote;
-              ends = g .ends ∙ rest-ends stay;
-            }
-
-        module _ (f : getD t (getD ws i 0) 0 ≡ 0 → ⊥) where
-          printed-here : printed c (drop i ws) ≡ getD t (getD ws i 0) 0 ∷ printed c (drop (i + 1) ws)
-          printed-here = rest (no-shift c (getD ws i 0) byte t gs f) ∙ rw (one c (getD ws i 0) byte t gs f)
-
-          pub run-room : to + length (printed c (drop at ws)) ≤ length out → next < length mid
-          run-room l = omega (arith, run-length, run-total, g .wrote .ended, ap (λ (l : List ℕ). length l) printed-here)
-
-          pub run-prints : Going c ws at out to (i + 1) (next + 1) (set mid next (getD t (getD ws i 0) 0))
-          run-prints =
-              record {
-                from = omega (arith, g .from);
-                within = omega arith;
-                put = g .put ++ (getD t (getD ws i 0) 0 ∷ []);
-                parted = g .parted ∙ ap (λ (l : List ℕ). g .put ++ l) printed-here ∙ sym (append-assoc (g .put) (getD t (getD ws i 0) 0 ∷ []) (printed c (drop (i + 1) ws)));
-                wrote = wrote-then out to (g .put) (getD t (getD ws i 0) 0 ∷ []) next (next + 1) mid _ (g .wrote) (record { ended = refl; holds = refl });
-                ends = g .ends ∙ rest-ends (no-shift c (getD ws i 0) byte t gs f);
-              }
-
-  -- after the run
-  module _ (r : Stop) (mid : List ℕ) (ran : Ran c ws at out to r mid) where
-    pub ran-length : length mid ≡ length out
-    ran-length = run-length (r .at) (r .to) mid (ran .run)
-
-    -- no word is left
-    pub typed-end : r .at ≡ length ws → Typed c (drop at ws) out to (record { to = r .to; ends = c }) mid
-    typed-end e =
-        let g = ran .run in
-        let all : printed c (drop at ws) ≡ g .put = g .parted ∙ rw (e, all-end printed endsPrinted bytesOf caseAt printed-walk c ws) (append-nil (g .put)) in
+    pub going-then : {s : Reached} {after : List ℕ} → Going (r .case) ws (r .at) mid (r .to) s after → Going c ws at out to s after
+    going-then {s} {after} n =
         record {
-          wrote = rw all (g .wrote);
-          ends = sym (g .ends ∙ rw e (ends-end printed endsPrinted bytesOf caseAt printed-walk c ws));
+          from = omega (arith, g .from, n .from);
+          within = n .within;
+          put = g .put ++ n .put;
+          parted = g .parted ∙ ap (λ (l : List ℕ). g .put ++ l) (n .parted) ∙ sym (append-assoc (g .put) (n .put) (printed (s .case) (drop (s .at) ws)));
+          wrote = wrote-then out to (g .put) (n .put) (r .to) (s .to) mid after (g .wrote) (n .wrote);
+          ends = g .ends ∙ n .ends;
         }
 
-    -- a shift follows: the other case prints the rest
-    module _ (f : r .at ≡ length ws → ⊥) where
-      pub ran-before : r .at < length ws
-      ran-before = omega (arith, ran .run .within)
+  -- within a run
+  module _ {i next : ℕ} {mid : List ℕ} (g : Going c ws at out to (stands i next c) mid) where
+    pub run-ends : length ws ≤ i → Ran c ws at out to (stands i next c) mid
+    run-ends h = record { run = g; same = refl; stopped = inl (omega (arith, g .within)) }
 
+    module _ (h : i < length ws) where
+      pub run-stops : getD ws i 0 ≡ leaving c → Ran c ws at out to (stands i next c) mid
+      run-stops e = record { run = g; same = refl; stopped = inr (h, e) }
+
+      module _ (byte : getD ws i 0 < 256) {t : List ℕ} (gs : GlyphsOf c t) where
+        pub run-silent : getD t (getD ws i 0) 0 ≡ 0 → (getD ws i 0 ≡ leaving c → ⊥) → Going c ws at out to (stands (i + 1) next c) mid
+        run-silent z stay =
+            going-then g (word-silent h (stays c (getD ws i 0) stay) (silent byte gs z))
+
+        module _ (f : getD t (getD ws i 0) 0 ≡ 0 → ⊥) where
+          here : Going c ws i mid next (stands (i + 1) (next + 1) c) (set mid next (getD t (getD ws i 0) 0))
+          here =
+              word-prints h (stays c (getD ws i 0) (no-shift byte gs f)) (one byte gs f)
+
+          pub run-prints : Going c ws at out to (stands (i + 1) (next + 1) c) (set mid next (getD t (getD ws i 0) 0))
+          run-prints = going-then g here
+
+          pub run-room : to + length (printed c (drop at ws)) ≤ length out → next < length mid
+          run-room l =
+              omega (
+                arith,
+                going-length g,
+                going-length run-prints,
+                going-room run-prints l,
+              )
+
+  -- after the run
+  module _ {r : Reached} {mid : List ℕ} (ran : Ran c ws at out to r mid) where
+    -- no word is left
+    pub ran-all : length ws ≤ r .at → Reaches c ws at out to r mid
+    ran-all h = record { going = ran .run; on = λ l. omega arith }
+
+    -- a shift follows, and is passed
+    module _ (h : r .at < length ws) where
       shift : getD ws (r .at) 0 ≡ leaving c
-      shift = ⊎-elim (λ e. absurd (f e)) (λ s. s .1) (ran .stopped)
+      shift = ⊎-elim (λ e. absurd (omega arith)) (λ s. s .1) (ran .stopped)
 
-      on : printed c (drop (r .at) ws) ≡ printed (other c) (drop (r .at + 1) ws)
-      on = all-next printed endsPrinted bytesOf caseAt printed-walk ws (r .at) ran-before c ∙ rw (shift, shift-prints c, shift-hands-on c)
-
-      on-ends : endsPrinted c (drop (r .at) ws) ≡ endsPrinted (other c) (drop (r .at + 1) ws)
-      on-ends = ends-next printed endsPrinted bytesOf caseAt printed-walk ws (r .at) ran-before c ∙ rw (shift, shift-hands-on c)
-
-      parted : printed c (drop at ws) ≡ ran .run .put ++ printed (other c) (drop (r .at + 1) ws)
-      parted = ran .run .parted ∙ ap (λ (l : List ℕ). ran .run .put ++ l) on
-
-      pub rest-room : to + length (printed c (drop at ws)) ≤ length out → r .to + length (printed (other c) (drop (r .at + 1) ws)) ≤ length mid
-      rest-room l =
-          omega (
-            arith,
-            ran-length,
-            ran .run .wrote .ended,
-            ap (λ (l : List ℕ). length l) parted ∙ length-append (ran .run .put) (printed (other c) (drop (r .at + 1) ws)),
-          )
-
-      pub typed-on : (e : End) (after : List ℕ) → Typed (other c) (drop (r .at + 1) ws) mid (r .to) e after → Typed c (drop at ws) out to e after
-      typed-on e after y =
+      pub ran-on : Reaches c ws at out to (stands (r .at + 1) (r .to) (other c)) mid
+      ran-on =
           record {
-            wrote = rw parted (wrote-then out to (ran .run .put) (printed (other c) (drop (r .at + 1) ws)) (r .to) (e .to) mid after (ran .run .wrote) (y .wrote));
-            ends = y .ends ∙ sym (ran .run .ends ∙ on-ends);
+            going = going-then (ran .run) (rw (ran .same) (word-shifts h shift));
+            on = λ l. omega (arith, ran .run .from);
           }
+
+  -- one run after the other
+  pub reaches-then : {r s : Reached} {mid after : List ℕ} → Reaches c ws at out to r mid → Reaches (r .case) ws (r .at) mid (r .to) s after → Reaches c ws at out to s after
+  reaches-then a b =
+      record {
+        going = going-then (a .going) (b .going);
+        on = λ h. omega (arith, a .on h, b .going .from);
+      }
+
+-- no word is left
+pub going-all : {c : Case} {ws out : List ℕ} {r : Reached} {after : List ℕ} → Going c ws 0 out 0 r after → length ws ≤ r .at → Typed c ws out r after
+going-all {c} {ws} {r = r} g h =
+    let e : r .at ≡ length ws = omega (arith, g .within) in
+    let all : printed c ws ≡ g .put = g .parted ∙ rw (e, all-end printed endsPrinted bytesOf caseAt printed-walk (r .case) ws) (append-nil (g .put)) in
+    record {
+      all = e;
+      wrote = rw all (g .wrote);
+      ends = sym (g .ends ∙ rw e (ends-end printed endsPrinted bytesOf caseAt printed-walk (r .case) ws));
+    }

@@ -10,7 +10,7 @@ ghost use Rattle.signals.specs.Numbers.{firstNot};
 ghost use Rattle.text.specs.Printing.{mayPrint, printed, Prints};
 ghost use Rattle.text.specs.Shifts.{shiftTo, other};
 ghost use Rattle.printing.specs.Glyph.{column, GlyphsOf};
-ghost use Rattle.printing.specs.Run.{sizeOf, Ran, Typed};
+ghost use Rattle.printing.specs.Run.{sizeOf, Ran, Reaches, Typed};
 use signals::Case;
 use signals::Row;
 use text::Printed;
@@ -23,16 +23,14 @@ const STAR: u8 = 42;
 // The signal blank (01, The code, No 32).
 const BLANK: u8 = 106;
 
-// Where a run stopped: at the shift that ends it or past the last word, and the place past its last byte.
-pub struct Stop {
+// How deep the two printing functions call each other before they return to the loop of `write`.
+const DEPTH: u8 = 2;
+
+// Where printing stands: the next word, the place past the last byte, and the case in force.
+pub struct Reached {
     pub at: usize,
     pub to: usize,
-}
-
-// The place past the last byte, and the case after the last signal.
-pub struct End {
-    pub to: usize,
-    pub ends: Case,
+    pub case: Case,
 }
 
 // Whether a word may stand in a list that is printed: traffic, or the error mark.
@@ -155,7 +153,7 @@ fn print_run(
     at: usize,
     room: &mut [u8],
     to: usize,
-) -> Stop
+) -> Reached
     requires { ⌜ (GlyphsOf case (now table)) × (at ≤ length (now words)) × (to + length (printed case (drop at (now words))) ≤ length (now room)) ⌝ }
     ensures { λ r. ⌜ Ran case (now (words .entry)) at (now (room .entry)) to r (now (room .exit)) ⌝ }
 {
@@ -166,7 +164,11 @@ fn print_run(
         let glyph = table[word as usize];
         if glyph == 0 {
             if word == leaving(case) {
-                return Stop { at: i, to: next };
+                return Reached {
+                    at: i,
+                    to: next,
+                    case,
+                };
             }
         } else {
             room[next] = glyph;
@@ -174,10 +176,15 @@ fn print_run(
         }
         i += 1;
     }
-    Stop { at: i, to: next }
+    Reached {
+        at: i,
+        to: next,
+        case,
+    }
 }
 
 // Prints the words from `at` on in letters case, into the room from `to` on, until figures hands on to `print_figures`.
+// Returns where no word is left, or where the depth is used up: then at the word after the shift, which the case counts in.
 fn print_letters(
     letters: &[u8; 256],
     figures: &[u8; 256],
@@ -185,19 +192,24 @@ fn print_letters(
     at: usize,
     room: &mut [u8],
     to: usize,
-) -> End
+    depth: u8,
+) -> Reached
     requires { ⌜ (GlyphsOf Letters (now letters)) × (GlyphsOf Figures (now figures)) × (at ≤ length (now words)) × (to + length (printed Letters (drop at (now words))) ≤ length (now room)) ⌝ }
-    ensures { λ r. ⌜ Typed Letters (drop at (now (words .entry))) (now (room .entry)) to r (now (room .exit)) ⌝ }
+    ensures { λ r. ⌜ Reaches Letters (now (words .entry)) at (now (room .entry)) to r (now (room .exit)) ⌝ }
 {
-    let stop = print_run(Case::Letters, letters, words, at, room, to);
-    let i = stop.at;
-    if i == words.len() {
-        return End {
-            to: stop.to,
-            ends: Case::Letters,
+    let run = print_run(Case::Letters, letters, words, at, room, to);
+    if words.len() <= run.at {
+        return run;
+    }
+    let past = run.at + 1;
+    if depth == 0 {
+        return Reached {
+            at: past,
+            to: run.to,
+            case: Case::Figures,
         };
     }
-    print_figures(letters, figures, words, i + 1, room, stop.to)
+    print_figures(letters, figures, words, past, room, run.to, depth - 1)
 }
 
 // The same in figures case, until letters hands on to `print_letters`.
@@ -208,32 +220,44 @@ fn print_figures(
     at: usize,
     room: &mut [u8],
     to: usize,
-) -> End
+    depth: u8,
+) -> Reached
     requires { ⌜ (GlyphsOf Letters (now letters)) × (GlyphsOf Figures (now figures)) × (at ≤ length (now words)) × (to + length (printed Figures (drop at (now words))) ≤ length (now room)) ⌝ }
-    ensures { λ r. ⌜ Typed Figures (drop at (now (words .entry))) (now (room .entry)) to r (now (room .exit)) ⌝ }
+    ensures { λ r. ⌜ Reaches Figures (now (words .entry)) at (now (room .entry)) to r (now (room .exit)) ⌝ }
 {
-    let stop = print_run(Case::Figures, figures, words, at, room, to);
-    let i = stop.at;
-    if i == words.len() {
-        return End {
-            to: stop.to,
-            ends: Case::Figures,
+    let run = print_run(Case::Figures, figures, words, at, room, to);
+    if words.len() <= run.at {
+        return run;
+    }
+    let past = run.at + 1;
+    if depth == 0 {
+        return Reached {
+            at: past,
+            to: run.to,
+            case: Case::Letters,
         };
     }
-    print_letters(letters, figures, words, i + 1, room, stop.to)
+    print_letters(letters, figures, words, past, room, run.to, depth - 1)
 }
 
 // Prints all the words from the start of the room.
-fn write(words: &[u8], case: Case, room: &mut [u8]) -> End
+fn write(words: &[u8], case: Case, room: &mut [u8]) -> Reached
     requires { ⌜ length (printed case (now words)) ≤ length (now room) ⌝ }
-    ensures { λ r. ⌜ Typed case (now (words .entry)) (now (room .entry)) 0 r (now (room .exit)) ⌝ }
+    ensures { λ r. ⌜ Typed case (now (words .entry)) (now (room .entry)) r (now (room .exit)) ⌝ }
 {
     let letters = glyphs(Case::Letters);
     let figures = glyphs(Case::Figures);
-    match case {
-        Case::Letters => print_letters(&letters, &figures, words, 0, room, 0),
-        Case::Figures => print_figures(&letters, &figures, words, 0, room, 0),
+    let mut stands = Reached { at: 0, to: 0, case };
+    while stands.at < words.len() {
+        let at = stands.at;
+        let to = stands.to;
+        let in_force = stands.case;
+        stands = match in_force {
+            Case::Letters => print_letters(&letters, &figures, words, at, room, to, DEPTH),
+            Case::Figures => print_figures(&letters, &figures, words, at, room, to, DEPTH),
+        };
     }
+    stands
 }
 
 // Prints `words`, which start in `case`, into `room` (01, Text): answers how many bytes were written and the case after
@@ -257,6 +281,6 @@ pub fn print(words: &[u8], case: Case, room: &mut [u8]) -> Printed
     }
     let end = write(words, case, room);
     let count = end.to;
-    let ends = end.ends;
+    let ends = end.case;
     Printed::Written { count, ends }
 }

@@ -4,8 +4,7 @@ use mathlib.Core.Path.{_∙_}
 use Prim.Native.Nat.{ℕ, _<_, _-_}
 use native.Mathlib.Omega.{arith}
 use lib.ListN.{length}
-use Rattle.signals.specs.declared.Case.the-variants.{Letters, Figures}
-use Rattle.printing.proofs.RunLaws.{typed-end, ran-before, rest-room, typed-on}
+use Rattle.printing.proofs.RunLaws.{going-room, ran-all, ran-on, reaches-then}
 use borrow.Fn.Kinds.{In}
 use borrow.Fn.PlainCycle.{Measures, is, falls, and}
 use Rattle.printing.proofs.print_figures.Reads as print-figures
@@ -61,36 +60,34 @@ print-figures-print-run-requires t c κs =
     (a .pre .1 .1, a .pre .1 .2, a .pre .1 .3)
 
 print-figures-same-length : (t : ℕ) → print-figures-lts.Need-same-length (print-figures-rests t) (print-figures-at t) print-figures.Post
-print-figures-same-length t c = c .before .before .before .print-run .kept .1 .1 .1 .1 .0
+print-figures-same-length t c = c .before .before .before .before .print-run .kept .1 .1 .1 .1 .0
 
 print-figures-returns : (t : ℕ) → print-figures-lts.Need-returns (print-figures-rests t) (print-figures-at t) print-figures.Post
-print-figures-returns t c =
-    let a = c .before .before .before .before .before .before .before in
-    let r = c .before .before .before .print-run in
-    typed-end Figures (a .args .words .now) (a .args .at) (a .args .room .now) (a .args .to) (r .result) (r .last .1 .1 .1 .1 .0) (r .ensures) (c .if1 .taken)
+print-figures-returns t c = ran-all (c .before .before .before .before .print-run .ensures) (c .if1 .taken)
 
-print-figures-add-print-letters : (t : ℕ) → print-figures-lts.Need-add-print-letters (print-figures-rests t) (print-figures-at t) print-figures.Post
-print-figures-add-print-letters t c =
-    let a = c .before .before .before .before .before .before .before in
-    let r = c .before .before .before .print-run in
-    omega (arith, ran-before Figures (a .args .words .now) (a .args .at) (a .args .room .now) (a .args .to) (r .result) (r .last .1 .1 .1 .1 .0) (r .ensures) (c .if1 .left))
+print-figures-add-past : (t : ℕ) → print-figures-lts.Need-add-past (print-figures-rests t) (print-figures-at t) print-figures.Post
+print-figures-add-past t c = omega arith
+
+print-figures-same-length-2 : (t : ℕ) → print-figures-lts.Need-same-length-2 (print-figures-rests t) (print-figures-at t) print-figures.Post
+print-figures-same-length-2 t c = c .before .before .before .before .before .before .print-run .kept .1 .1 .1 .1 .0
+
+print-figures-returns-2 : (t : ℕ) → print-figures-lts.Need-returns-2 (print-figures-rests t) (print-figures-at t) print-figures.Post
+print-figures-returns-2 t c = ran-on (c .before .before .before .before .before .before .print-run .ensures) (c .before .before .if1 .left)
+
+print-figures-sub-print-letters : (t : ℕ) → print-figures-lts.Need-sub-print-letters (print-figures-rests t) (print-figures-at t) print-figures.Post
+print-figures-sub-print-letters t c = omega arith
 
 print-figures-print-letters-requires : (t : ℕ) → print-figures-lts.Need-print-letters-requires (print-figures-rests t) (print-figures-at t) print-figures.Post
 print-figures-print-letters-requires t c κs =
-    let a = c .before .before .before .before .before .before .before .before in
-    let r = c .before .before .before .before .print-run in
-    let h = ran-before Figures (a .args .words .now) (a .args .at) (a .args .room .now) (a .args .to) (r .result) (r .last .1 .1 .1 .1 .0) (r .ensures) (c .before .if1 .left) in
-    (omega (arith, a .pre .0, r .ensures .run .from), (a .pre .1 .0, a .pre .1 .1, omega arith, rest-room Figures (a .args .words .now) (a .args .at) (a .args .room .now) (a .args .to) (r .result) (r .last .1 .1 .1 .1 .0) (r .ensures) (c .before .if1 .left) (a .pre .1 .3)))
-
-print-figures-same-length-2 : (t : ℕ) → print-figures-lts.Need-same-length-2 (print-figures-rests t) (print-figures-at t) print-figures.Post
-print-figures-same-length-2 t c = c .before .before .print-letters .kept .1 .1 .1 .1 .0 ∙ c .before .before .before .before .before .before .before .print-run .kept .1 .1 .1 .1 .0
-
-print-figures-returns-2 : (t : ℕ) → print-figures-lts.Need-returns-2 (print-figures-rests t) (print-figures-at t) print-figures.Post
-print-figures-returns-2 t c =
     let a = c .before .before .before .before .before .before .before .before .before .before .before in
-    let r = c .before .before .before .before .before .before .before .print-run in
-    let o = c .before .before .print-letters in
-    typed-on Figures (a .args .words .now) (a .args .at) (a .args .room .now) (a .args .to) (r .result) (r .last .1 .1 .1 .1 .0) (r .ensures) (c .before .before .before .before .if1 .left) (o .result) (o .last .1 .1 .1 .1 .0) (o .ensures)
+    let on = ran-on (c .before .before .before .before .before .before .before .print-run .ensures) (c .before .before .before .if1 .left) in
+    (omega (arith, a .pre .0, c .before .before .before .if1 .left, c .before .before .before .before .before .before .before .print-run .ensures .run .from), (a .pre .1 .0, a .pre .1 .1, on .going .within, going-room (on .going) (a .pre .1 .3)))
+
+print-figures-same-length-3 : (t : ℕ) → print-figures-lts.Need-same-length-3 (print-figures-rests t) (print-figures-at t) print-figures.Post
+print-figures-same-length-3 t c = c .before .before .print-letters .kept .1 .1 .1 .1 .0 ∙ c .before .before .before .before .before .before .before .before .before .before .print-run .kept .1 .1 .1 .1 .0
+
+print-figures-returns-3 : (t : ℕ) → print-figures-lts.Need-returns-3 (print-figures-rests t) (print-figures-at t) print-figures.Post
+print-figures-returns-3 t c = reaches-then (ran-on (c .before .before .before .before .before .before .before .before .before .before .print-run .ensures) (c .before .before .before .before .before .before .if1 .left)) (c .before .before .print-letters .ensures)
 
 print-letters-print-run-requires : (t : ℕ) → print-letters-lts.Need-print-run-requires (print-letters-rests t) (print-letters-at t) print-letters.Post
 print-letters-print-run-requires t c κs =
@@ -98,36 +95,34 @@ print-letters-print-run-requires t c κs =
     (a .pre .1 .0, a .pre .1 .2, a .pre .1 .3)
 
 print-letters-same-length : (t : ℕ) → print-letters-lts.Need-same-length (print-letters-rests t) (print-letters-at t) print-letters.Post
-print-letters-same-length t c = c .before .before .before .print-run .kept .1 .1 .1 .1 .0
+print-letters-same-length t c = c .before .before .before .before .print-run .kept .1 .1 .1 .1 .0
 
 print-letters-returns : (t : ℕ) → print-letters-lts.Need-returns (print-letters-rests t) (print-letters-at t) print-letters.Post
-print-letters-returns t c =
-    let a = c .before .before .before .before .before .before .before in
-    let r = c .before .before .before .print-run in
-    typed-end Letters (a .args .words .now) (a .args .at) (a .args .room .now) (a .args .to) (r .result) (r .last .1 .1 .1 .1 .0) (r .ensures) (c .if1 .taken)
+print-letters-returns t c = ran-all (c .before .before .before .before .print-run .ensures) (c .if1 .taken)
 
-print-letters-add-print-figures : (t : ℕ) → print-letters-lts.Need-add-print-figures (print-letters-rests t) (print-letters-at t) print-letters.Post
-print-letters-add-print-figures t c =
-    let a = c .before .before .before .before .before .before .before in
-    let r = c .before .before .before .print-run in
-    omega (arith, ran-before Letters (a .args .words .now) (a .args .at) (a .args .room .now) (a .args .to) (r .result) (r .last .1 .1 .1 .1 .0) (r .ensures) (c .if1 .left))
+print-letters-add-past : (t : ℕ) → print-letters-lts.Need-add-past (print-letters-rests t) (print-letters-at t) print-letters.Post
+print-letters-add-past t c = omega arith
+
+print-letters-same-length-2 : (t : ℕ) → print-letters-lts.Need-same-length-2 (print-letters-rests t) (print-letters-at t) print-letters.Post
+print-letters-same-length-2 t c = c .before .before .before .before .before .before .print-run .kept .1 .1 .1 .1 .0
+
+print-letters-returns-2 : (t : ℕ) → print-letters-lts.Need-returns-2 (print-letters-rests t) (print-letters-at t) print-letters.Post
+print-letters-returns-2 t c = ran-on (c .before .before .before .before .before .before .print-run .ensures) (c .before .before .if1 .left)
+
+print-letters-sub-print-figures : (t : ℕ) → print-letters-lts.Need-sub-print-figures (print-letters-rests t) (print-letters-at t) print-letters.Post
+print-letters-sub-print-figures t c = omega arith
 
 print-letters-print-figures-requires : (t : ℕ) → print-letters-lts.Need-print-figures-requires (print-letters-rests t) (print-letters-at t) print-letters.Post
 print-letters-print-figures-requires t c κs =
-    let a = c .before .before .before .before .before .before .before .before in
-    let r = c .before .before .before .before .print-run in
-    let h = ran-before Letters (a .args .words .now) (a .args .at) (a .args .room .now) (a .args .to) (r .result) (r .last .1 .1 .1 .1 .0) (r .ensures) (c .before .if1 .left) in
-    (omega (arith, a .pre .0, r .ensures .run .from), (a .pre .1 .0, a .pre .1 .1, omega arith, rest-room Letters (a .args .words .now) (a .args .at) (a .args .room .now) (a .args .to) (r .result) (r .last .1 .1 .1 .1 .0) (r .ensures) (c .before .if1 .left) (a .pre .1 .3)))
-
-print-letters-same-length-2 : (t : ℕ) → print-letters-lts.Need-same-length-2 (print-letters-rests t) (print-letters-at t) print-letters.Post
-print-letters-same-length-2 t c = c .before .before .print-figures .kept .1 .1 .1 .1 .0 ∙ c .before .before .before .before .before .before .before .print-run .kept .1 .1 .1 .1 .0
-
-print-letters-returns-2 : (t : ℕ) → print-letters-lts.Need-returns-2 (print-letters-rests t) (print-letters-at t) print-letters.Post
-print-letters-returns-2 t c =
     let a = c .before .before .before .before .before .before .before .before .before .before .before in
-    let r = c .before .before .before .before .before .before .before .print-run in
-    let o = c .before .before .print-figures in
-    typed-on Letters (a .args .words .now) (a .args .at) (a .args .room .now) (a .args .to) (r .result) (r .last .1 .1 .1 .1 .0) (r .ensures) (c .before .before .before .before .if1 .left) (o .result) (o .last .1 .1 .1 .1 .0) (o .ensures)
+    let on = ran-on (c .before .before .before .before .before .before .before .print-run .ensures) (c .before .before .before .if1 .left) in
+    (omega (arith, a .pre .0, c .before .before .before .if1 .left, c .before .before .before .before .before .before .before .print-run .ensures .run .from), (a .pre .1 .0, a .pre .1 .1, on .going .within, going-room (on .going) (a .pre .1 .3)))
+
+print-letters-same-length-3 : (t : ℕ) → print-letters-lts.Need-same-length-3 (print-letters-rests t) (print-letters-at t) print-letters.Post
+print-letters-same-length-3 t c = c .before .before .print-figures .kept .1 .1 .1 .1 .0 ∙ c .before .before .before .before .before .before .before .before .before .before .print-run .kept .1 .1 .1 .1 .0
+
+print-letters-returns-3 : (t : ℕ) → print-letters-lts.Need-returns-3 (print-letters-rests t) (print-letters-at t) print-letters.Post
+print-letters-returns-3 t c = reaches-then (ran-on (c .before .before .before .before .before .before .before .before .before .before .print-run .ensures) (c .before .before .before .before .before .before .if1 .left)) (c .before .before .print-figures .ensures)
 
 pub +print-figures+print-letters-spec : {M : Type 1} → statement M
 +print-figures+print-letters-spec =
@@ -137,10 +132,13 @@ pub +print-figures+print-letters-spec : {M : Type 1} → statement M
     (print-figures-print-run-requires t)
     (print-figures-same-length t)
     (print-figures-returns t)
-    (print-figures-add-print-letters t)
-    (print-figures-print-letters-requires t)
+    (print-figures-add-past t)
     (print-figures-same-length-2 t)
-    (print-figures-returns-2 t))
+    (print-figures-returns-2 t)
+    (print-figures-sub-print-letters t)
+    (print-figures-print-letters-requires t)
+    (print-figures-same-length-3 t)
+    (print-figures-returns-3 t))
     λ t. print-letters-lts.spec
     (print-letters-rests t)
     (print-letters-at t)
@@ -148,7 +146,10 @@ pub +print-figures+print-letters-spec : {M : Type 1} → statement M
     (print-letters-print-run-requires t)
     (print-letters-same-length t)
     (print-letters-returns t)
-    (print-letters-add-print-figures t)
-    (print-letters-print-figures-requires t)
+    (print-letters-add-past t)
     (print-letters-same-length-2 t)
     (print-letters-returns-2 t)
+    (print-letters-sub-print-figures t)
+    (print-letters-print-figures-requires t)
+    (print-letters-same-length-3 t)
+    (print-letters-returns-3 t)

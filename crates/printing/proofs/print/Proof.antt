@@ -72,7 +72,7 @@ returns-4 c =
     (w .result .to)
     (w .ensures .wrote .ended ∙ zero-add _)
     (omega (arith, w .ensures .wrote .ended))
-    (w .result .ends)
+    (w .result .case)
     (w .ensures .ends)
     (w .last .1 .1 .0)
     (w .ensures .wrote .holds ∙ sets-over (a .args .room .now) (printed (a .args .case) (a .args .words .now)) fits))

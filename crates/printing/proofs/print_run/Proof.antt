@@ -6,7 +6,7 @@ use native.Mathlib.Omega.{arith}
 use lib.ListN.{length}
 use borrow.Author.Needs.{needs}
 use Rattle.printing.specs.Run.{Going}
-use Rattle.printing.proofs.RunLaws.{run-starts, run-length, run-ends, run-stops, run-silent, run-room, run-prints}
+use Rattle.printing.proofs.RunLaws.{stands, going-starts, going-length, run-ends, run-stops, run-silent, run-room, run-prints}
 use Rattle.printing.proofs.print_run.Statement.{statement}
 use Rattle.printing.proofs.print_run.Tie as tie
 use Rattle.printing.proofs.print_run.Reads as reads
@@ -14,7 +14,7 @@ use Rattle.printing.proofs.print_run.Lts as lts
 use Rattle.printing.proofs.leaving.Reads as leaving-reads
 
 abbrev Inv-loop : tie.InvT-loop
-Inv-loop case table words at room₀ to i₀ next₀ room i next = Going case words at room₀ to i next room
+Inv-loop case table words at room₀ to i₀ next₀ room i next = Going case words at room₀ to (stands i next case) room
 
 abbrev μ-loop : tie.MeasureT-loop
 μ-loop case table words at room₀ to i₀ next₀ room i next = length words - i
@@ -22,7 +22,7 @@ abbrev μ-loop : tie.MeasureT-loop
 loop-holds : tie.Need-loop-holds Inv-loop μ-loop
 loop-holds c =
     let a = c .before .before in
-    run-starts (a .args .case) (a .args .words .now) (a .args .at) (a .args .room .now) (a .args .to) (a .pre .1)
+    going-starts (a .pre .1)
 
 shared-slice-read-word : tie.Need-shared-slice-read-word Inv-loop μ-loop
 shared-slice-read-word c = omega arith
@@ -42,25 +42,25 @@ same-length : tie.Need-same-length Inv-loop μ-loop
 same-length c =
     let a = c .before .before .before .before .before .before .before .before .before in
     let l = c .before .before .before .before .before .before .loop in
-    run-length (a .args .case) (a .args .words .now) (a .args .at) (a .args .room .now) (a .args .to) (l .i) (l .next) (l .room) (l .inv)
+    going-length (l .inv)
 
 returns : tie.Need-returns Inv-loop μ-loop
 returns c =
     let a = c .before .before .before .before .before .before .before .before .before in
     let l = c .before .before .before .before .before .before .loop in
-    run-stops (a .args .case) (a .args .words .now) (a .args .at) (a .args .room .now) (a .args .to) (l .i) (l .next) (l .room) (l .inv) (c .before .before .before .before .before .loop-test .taken) (c .if2 .taken ∙ c .before .leaving .ensures)
+    run-stops (l .inv) (c .before .before .before .before .before .loop-test .taken) (c .if2 .taken ∙ c .before .leaving .ensures)
 
 slice-write-room : tie.Need-slice-write-room Inv-loop μ-loop
 slice-write-room c =
     let a = c .before .before .before .before .before .before .before in
     let l = c .before .before .before .before .loop in
-    run-room (a .args .case) (a .args .words .now) (a .args .at) (a .args .room .now) (a .args .to) (l .i) (l .next) (l .room) (l .inv) (c .before .before .before .loop-test .taken) (c .before .before .shared-slice-known2 .given (l .i) .fits) (a .args .table .now) (a .pre .0) (c .if1 .left) (a .pre .2)
+    run-room (l .inv) (c .before .before .before .loop-test .taken) (c .before .before .shared-slice-known2 .given (l .i) .fits) (a .pre .0) (c .if1 .left) (a .pre .2)
 
 add-next : tie.Need-add-next Inv-loop μ-loop
 add-next c =
     let a = c .before .before .before .before .before .before .before in
     let l = c .before .before .before .before .loop in
-    omega (arith, run-length (a .args .case) (a .args .words .now) (a .args .at) (a .args .room .now) (a .args .to) (l .i) (l .next) (l .room) (l .inv), run-room (a .args .case) (a .args .words .now) (a .args .at) (a .args .room .now) (a .args .to) (l .i) (l .next) (l .room) (l .inv) (c .before .before .before .loop-test .taken) (c .before .before .shared-slice-known2 .given (l .i) .fits) (a .args .table .now) (a .pre .0) (c .if1 .left) (a .pre .2))
+    omega (arith, going-length (l .inv), run-room (l .inv) (c .before .before .before .loop-test .taken) (c .before .before .shared-slice-known2 .given (l .i) .fits) (a .pre .0) (c .if1 .left) (a .pre .2))
 
 add-i : tie.Need-add-i Inv-loop μ-loop
 add-i c = omega arith
@@ -75,21 +75,21 @@ loop-again c =
     let h = c .before .before .before .loop-test .taken in
     let byte = c .before .before .shared-slice-known2 .given (l .i) .fits in
     ⊎-elim
-    (λ w. rw (w .3, w .4) (run-silent (a .args .case) (a .args .words .now) (a .args .at) (a .args .room .now) (a .args .to) (l .i) (l .next) (l .room) (l .inv) h byte (a .args .table .now) (a .pre .0) (w .0 .taken) (λ e. w .2 .left (e ∙ sym (w .1 .ensures)))))
-    (λ w. rw (w .1, w .2) (run-prints (a .args .case) (a .args .words .now) (a .args .at) (a .args .room .now) (a .args .to) (l .i) (l .next) (l .room) (l .inv) h byte (a .args .table .now) (a .pre .0) (w .0 .left)))
+    (λ w. rw (w .3, w .4) (run-silent (l .inv) h byte (a .pre .0) (w .0 .taken) (λ e. w .2 .left (e ∙ sym (w .1 .ensures)))))
+    (λ w. rw (w .1, w .2) (run-prints (l .inv) h byte (a .pre .0) (w .0 .left)))
     (c .if1 .came)
 
 same-length-2 : tie.Need-same-length-2 Inv-loop μ-loop
 same-length-2 c =
     let a = c .before .before .before .before in
     let l = c .before .loop in
-    run-length (a .args .case) (a .args .words .now) (a .args .at) (a .args .room .now) (a .args .to) (l .i) (l .next) (l .room) (l .inv)
+    going-length (l .inv)
 
 returns-2 : tie.Need-returns-2 Inv-loop μ-loop
 returns-2 c =
     let a = c .before .before .before .before in
     let l = c .before .loop in
-    run-ends (a .args .case) (a .args .words .now) (a .args .at) (a .args .room .now) (a .args .to) (l .i) (l .next) (l .room) (l .inv) (c .loop-test .left)
+    run-ends (l .inv) (c .loop-test .left)
 
 pub print-run-spec : {M : Type 1} → statement M
 print-run-spec =

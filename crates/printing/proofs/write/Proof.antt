@@ -1,6 +1,10 @@
--- `printing::write` meets its contract: both tables, and the run of the case given. Assumes nothing.
+-- `printing::write` meets its contract: both tables, and turn by turn what the case in force reaches. Assumes nothing.
+use Prim.Native.Nat.{_-_}
 use native.Mathlib.Omega.{arith}
+use lib.ListN.{length}
 use borrow.Author.Needs.{needs}
+use Rattle.printing.specs.Run.{Going}
+use Rattle.printing.proofs.RunLaws.{going-starts, going-length, going-room, going-then, going-all}
 use Rattle.printing.proofs.write.Statement.{statement}
 use Rattle.printing.proofs.write.Tie as tie
 use Rattle.printing.proofs.write.Reads as reads
@@ -9,51 +13,83 @@ use Rattle.printing.proofs.glyphs.Reads as glyphs-reads
 use Rattle.printing.proofs.print_figures.Reads as print-figures-reads
 use Rattle.printing.proofs.print_letters.Reads as print-letters-reads
 
-glyphs-requires : tie.Need-glyphs-requires
+abbrev Inv-loop : tie.InvT-loop
+Inv-loop words room₀ letters figures stands₀ room stands = Going (stands₀ .case) words (stands₀ .at) room₀ (stands₀ .to) stands room
+
+abbrev μ-loop : tie.MeasureT-loop
+μ-loop words room₀ letters figures stands₀ room stands = length words - stands .at
+
+glyphs-requires : tie.Need-glyphs-requires Inv-loop μ-loop
 glyphs-requires c κs = search needs
 
-glyphs-requires-2 : tie.Need-glyphs-requires-2
+glyphs-requires-2 : tie.Need-glyphs-requires-2 Inv-loop μ-loop
 glyphs-requires-2 c κs = search needs
 
-enum-told : tie.Need-enum-told
+loop-holds : tie.Need-loop-holds Inv-loop μ-loop
+loop-holds c = going-starts (omega arith)
+
+enum-told : tie.Need-enum-told Inv-loop μ-loop
 enum-told c = search needs
 
-print-letters-requires : tie.Need-print-letters-requires
+print-letters-requires : tie.Need-print-letters-requires Inv-loop μ-loop
 print-letters-requires c κs =
-    let room = rw (c .before .before .before .enum-told .given .1) at (c .before .before .before .before .before .before .before .before .before .pre) in
-    (c .before .before .before .before .before .before .glyphs .ensures, c .before .before .before .before .before .glyphs2 .ensures, omega arith, omega arith)
+    let l = c .before .before .before .before .before .before .before .loop in (
+      c .before .before .before .before .before .before .before .before .before .glyphs .ensures,
+      c .before .before .before .before .before .before .before .before .glyphs2 .ensures,
+      l .inv .within,
+      rw (c .before .before .before .enum-told .given .1) at (going-room (l .inv) (omega arith)),
+    )
 
-enum-told-2 : tie.Need-enum-told-2
+enum-told-2 : tie.Need-enum-told-2 Inv-loop μ-loop
 enum-told-2 c = search needs
 
-print-figures-requires : tie.Need-print-figures-requires
+print-figures-requires : tie.Need-print-figures-requires Inv-loop μ-loop
 print-figures-requires c κs =
-    let room = rw (c .before .before .before .enum-told2 .given .1) at (c .before .before .before .before .before .before .before .before .before .pre) in
-    (c .before .before .before .before .before .before .glyphs .ensures, c .before .before .before .before .before .glyphs2 .ensures, omega arith, omega arith)
+    let l = c .before .before .before .before .before .before .before .loop in (
+      c .before .before .before .before .before .before .before .before .before .glyphs .ensures,
+      c .before .before .before .before .before .before .before .before .glyphs2 .ensures,
+      l .inv .within,
+      rw (c .before .before .before .enum-told2 .given .1) at (going-room (l .inv) (omega arith)),
+    )
 
-same-length : tie.Need-same-length
-same-length c = search needs
+loop-less : tie.Need-loop-less Inv-loop μ-loop
+loop-less c =
+    let o = c .before .before .print-letters .ensures in
+    omega (arith, o .on (c .before .before .before .before .before .before .before .before .if1 .taken), o .going .within)
 
-returns : tie.Need-returns
-returns c = rw (c .before .before .before .before .before .before .enum-told .given .1) (c .before .before .print-letters .ensures)
+loop-again : tie.Need-loop-again Inv-loop μ-loop
+loop-again c = going-then (c .before .before .before .before .before .before .before .before .before .before .loop .inv) (rw (c .before .before .before .before .before .before .enum-told .given .1) (c .before .before .print-letters .ensures .going))
 
-same-length-2 : tie.Need-same-length-2
-same-length-2 c = search needs
+loop-less-2 : tie.Need-loop-less-2 Inv-loop μ-loop
+loop-less-2 c =
+    let o = c .before .before .print-figures .ensures in
+    omega (arith, o .on (c .before .before .before .before .before .before .before .before .if1 .taken), o .going .within)
 
-returns-2 : tie.Need-returns-2
-returns-2 c = rw (c .before .before .before .before .before .before .enum-told2 .given .1) (c .before .before .print-figures .ensures)
+loop-again-2 : tie.Need-loop-again-2 Inv-loop μ-loop
+loop-again-2 c = going-then (c .before .before .before .before .before .before .before .before .before .before .loop .inv) (rw (c .before .before .before .before .before .before .enum-told2 .given .1) (c .before .before .print-figures .ensures .going))
+
+same-length : tie.Need-same-length Inv-loop μ-loop
+same-length c = going-length (c .before .before .loop .inv)
+
+returns : tie.Need-returns Inv-loop μ-loop
+returns c = going-all (c .before .before .loop .inv) (c .if1 .left)
 
 pub write-spec : {M : Type 1} → statement M
 write-spec =
     tie.close
     (tie.spec
+    Inv-loop
+    μ-loop
     glyphs-requires
     glyphs-requires-2
+    loop-holds
     enum-told
     print-letters-requires
     enum-told-2
     print-figures-requires
+    loop-less
+    loop-again
+    loop-less-2
+    loop-again-2
     same-length
-    returns
-    same-length-2
-    returns-2)
+    returns)
