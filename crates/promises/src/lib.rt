@@ -1,6 +1,6 @@
-// The public calls and what each promises, on one page: a function for each call of docs/PROMISES.md, under the same promise, that
-// only makes the call. This is the code that an approver reads, and it holds each promise in place: where the `ensures` of a call
-// is weakened the function here is no longer proved, and the gate fails. No code of the product calls these functions.
+// The public calls and what each promises, on one page: for each call of docs/PROMISES.md, in that order, a function under the same
+// promise that only makes the call. It is the one page of code that an approver reads, and it holds each promise in place: where the
+// `ensures` of a call is weakened, the function here is no longer proved and the gate fails. No code of the product calls these.
 //
 // What the promises say stands in the `specs/` of `signals`, `text`, `mode_a` and `mode_b`; that each leaves one answer, in their
 // `proofs/Unique.antt`. `now (text .entry)` is what the caller lends as the call begins, `now (room .exit)` the room as it ends. No
@@ -52,6 +52,12 @@ pub fn print(words: &[u8], case: Case, room: &mut [u8]) -> Printed
 }
 
 // 01, The station.
+pub fn step(s: Station, burst: Words, offer: Offer) -> Stepped
+    ensures { λ r. ⌜ Steps s burst offer r ⌝ }
+{
+    station::step(s, burst, offer)
+}
+
 pub fn fresh_master() -> Station
     ensures { λ r. ⌜ r ≡ freshMaster ⌝ }
 {
@@ -70,12 +76,6 @@ pub fn first_burst() -> Words
     Station::first_burst()
 }
 
-pub fn step(s: Station, burst: Words, offer: Offer) -> Stepped
-    ensures { λ r. ⌜ Steps s burst offer r ⌝ }
-{
-    station::step(s, burst, offer)
-}
-
 // 01, Mode B.
 pub fn slot(text: &[u8], number: usize) -> Slot
     ensures { λ r. ⌜ Slots (now (text .entry)) number r ⌝ }
@@ -83,14 +83,14 @@ pub fn slot(text: &[u8], number: usize) -> Slot
     sending::slot(text, number)
 }
 
-pub fn fresh_receiver() -> Receiver
-    ensures { λ r. ⌜ r ≡ freshReceiver ⌝ }
-{
-    Receiver::fresh()
-}
-
 pub fn receive(receiver: Receiver, word: u8) -> Received
     ensures { λ r. ⌜ Receives receiver word r ⌝ }
 {
     receiving::receive(receiver, word)
+}
+
+pub fn fresh_receiver() -> Receiver
+    ensures { λ r. ⌜ r ≡ freshReceiver ⌝ }
+{
+    Receiver::fresh()
 }
