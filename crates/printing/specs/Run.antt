@@ -3,18 +3,12 @@ use mathlib.Core.Path.{_≡_}
 use mathlib.Core.Logic.{_⊎_}
 use mathlib.Core.List.{List, _++_}
 use Prim.Native.Nat.{ℕ, _≤_, _<_}
-use lib.Dec.{eqb}
 use lib.ListN.{length, getD, drop}
-use Rattle.laws.specs.Choice.{if_then_else_}
 use Rattle.laws.specs.Room.{Wrote}
 use Rattle.signals.specs.declared.Case.{Case}
 use Rattle.text.specs.Printing.{printed, endsPrinted}
 use Rattle.text.specs.Shifts.{shiftTo, other}
 use Rattle.printing.specs.declared.Reached.{Reached}
-
--- how many bytes a word that may be printed prints, in either case: none for the shifts (90, 54) and blank (106)
-abbrev pub sizeOf : ℕ → ℕ
-sizeOf w = if eqb w 90 then 0 else if eqb w 54 then 0 else if eqb w 106 then 0 else 1
 
 -- the words from `at` to where r stands are printed from the case c: `put`, and nothing else, is stored in the room from `to` to r's
 -- place, and the rest of the list, from r's case, prints the rest and ends as the whole does

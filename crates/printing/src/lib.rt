@@ -1,111 +1,30 @@
-// Printing: signals to operator's characters (01, Text). The list is judged whole before a byte is written, and then printed
-// run by run: a run is the words up to the next shift to the other case.
-ghost use mathlib.Core.Bool.{true};
+// Printing: signals to operator's characters (01, Text). The list is judged whole before a byte is written (`judging`), and then
+// printed run by run: a run is the words up to the next shift to the other case. The two printing functions hand on to each
+// other at the shifts, but only DEPTH deep, and `write` goes on from where they return: the stack does not grow with the list.
 ghost use mathlib.Core.Path.{_≡_};
 ghost use Prim.Native.Nat.{_+_, _≤_};
 ghost use lib.ListN.{length, drop};
 ghost use Rattle.signals.specs.declared.Case.{Case};
 ghost use Rattle.signals.specs.declared.Case.the-variants.{Letters, Figures};
-ghost use Rattle.signals.specs.Numbers.{firstNot};
-ghost use Rattle.text.specs.Printing.{mayPrint, printed, Prints};
+ghost use Rattle.text.specs.Printing.{printed, Prints};
 ghost use Rattle.text.specs.Shifts.{shiftTo, other};
 ghost use Rattle.printing.specs.Glyph.{column, GlyphsOf};
-ghost use Rattle.printing.specs.Run.{sizeOf, Ran, Reaches, Typed};
+ghost use Rattle.printing.specs.Run.{Ran, Reaches, Typed};
 use signals::Case;
 use signals::Row;
 use text::Printed;
 
-// The error mark in a list of signals, and the byte that it prints (01, Text).
-const ERROR_MARK: u8 = 255;
-
+// The byte that the error mark prints (01, Text).
 const STAR: u8 = 42;
 
-// The signal blank (01, The code, No 32).
-const BLANK: u8 = 106;
-
-// How deep the two printing functions call each other before they return to the loop of `write`.
+// How many times the two printing functions hand on to each other before they return to `write`.
 const DEPTH: u8 = 2;
 
 // Where printing stands: the next word, the place past the last byte, and the case in force.
-pub struct Reached {
-    pub at: usize,
-    pub to: usize,
-    pub case: Case,
-}
-
-// Whether a word may stand in a list that is printed: traffic, or the error mark.
-fn may_print(word: u8) -> bool
-    ensures { λ r. ⌜ r ≡ mayPrint word ⌝ }
-{
-    signals::is_traffic(word) | (word == ERROR_MARK)
-}
-
-// True only where every word may stand. It looks at all of them, one like the other, so that the compiler can take sixteen at a
-// time.
-fn all_may(words: &[u8]) -> bool
-    ensures { λ r. ⌜ (r ≡ true → firstNot mayPrint (now (words .entry)) ≡ length (now (words .entry))) ⌝ }
-{
-    let mut all = true;
-    let mut i = 0;
-    while i < words.len() {
-        all = all & may_print(words[i]);
-        i += 1;
-    }
-    all
-}
-
-// The first word that may not stand, found one by one.
-fn searched(words: &[u8]) -> usize
-    ensures { λ r. ⌜ r ≡ firstNot mayPrint (now (words .entry)) ⌝ }
-{
-    let mut i = 0;
-    while i < words.len() {
-        if !may_print(words[i]) {
-            return i;
-        }
-        i += 1;
-    }
-    i
-}
-
-// The index of the first word that may not stand; the length where all may.
-fn first_bad(words: &[u8]) -> usize
-    ensures { λ r. ⌜ r ≡ firstNot mayPrint (now (words .entry)) ⌝ }
-{
-    if all_may(words) {
-        return words.len();
-    }
-    searched(words)
-}
-
-// How many bytes a word that may stand prints, in either case.
-fn size(word: u8) -> usize
-    ensures { λ r. ⌜ r ≡ sizeOf word ⌝ }
-{
-    if word == signals::LETTERS {
-        return 0;
-    }
-    if word == signals::FIGURES {
-        return 0;
-    }
-    if word == BLANK {
-        return 0;
-    }
-    1
-}
-
-// The room that the words need, whatever case they start in.
-fn needed(words: &[u8]) -> usize
-    requires { ⌜ (length (now words) ≤ 8192) × (length (now words) ≤ firstNot mayPrint (now words)) ⌝ }
-    ensures { λ r. ⌜ ((c : Case) → r ≡ length (printed c (now (words .entry)))) ⌝ }
-{
-    let mut room = 0;
-    let mut i = 0;
-    while i < words.len() {
-        room += size(words[i]);
-        i += 1;
-    }
-    room
+struct Reached {
+    at: usize,
+    to: usize,
+    case: Case,
 }
 
 // The byte of a row in a case.
@@ -124,7 +43,7 @@ fn glyphs(case: Case) -> [u8; 256]
 {
     let rows = signals::rows();
     let mut table = [0u8; 256];
-    table[ERROR_MARK as usize] = STAR;
+    table[judging::ERROR_MARK as usize] = STAR;
     let mut i = 0;
     while i < 35 {
         let row = rows[i];
@@ -145,7 +64,8 @@ fn leaving(case: Case) -> u8
     }
 }
 
-// Prints the words from `at` on, into the room from `to` on, up to the shift that leaves the case, if one comes.
+// Prints the words from `at` on, into the room from `to` on, up to the shift that leaves the case, if one comes: it stands at
+// that shift then, still in the case of the run.
 fn print_run(
     case: Case,
     table: &[u8; 256],
@@ -183,8 +103,8 @@ fn print_run(
     }
 }
 
-// Prints the words from `at` on in letters case, into the room from `to` on, until figures hands on to `print_figures`.
-// Returns where no word is left, or where the depth is used up: then at the word after the shift, which the case counts in.
+// Prints the words from `at` on in letters case, into the room from `to` on, until figures hands on to `print_figures`. At depth
+// 0 it returns instead: past the shift, and in the case that the shift calls for.
 fn print_letters(
     letters: &[u8; 256],
     figures: &[u8; 256],
@@ -240,7 +160,7 @@ fn print_figures(
     print_letters(letters, figures, words, past, room, run.to, depth - 1)
 }
 
-// Prints all the words from the start of the room.
+// Prints all the words from the start of the room. Each turn passes a word at least, so it ends.
 fn write(words: &[u8], case: Case, room: &mut [u8]) -> Reached
     requires { ⌜ length (printed case (now words)) ≤ length (now room) ⌝ }
     ensures { λ r. ⌜ Typed case (now (words .entry)) (now (room .entry)) r (now (room .exit)) ⌝ }
@@ -268,13 +188,13 @@ pub fn print(words: &[u8], case: Case, room: &mut [u8]) -> Printed
     if 8192 < words.len() {
         return Printed::TooLong;
     }
-    let bad = first_bad(words);
+    let bad = judging::first_bad(words);
     if bad < words.len() {
         return Printed::BadWord(bad);
     }
     // A word prints one byte at most, so a room as long as the list is never too short.
     if room.len() < words.len() {
-        let need = needed(words);
+        let need = judging::needed(words);
         if room.len() < need {
             return Printed::NoRoom(need);
         }

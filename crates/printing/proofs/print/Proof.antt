@@ -10,14 +10,14 @@ use Rattle.signals.specs.Numbers.{firstNot}
 use Rattle.text.specs.Printing.{mayPrint, printed, endsPrinted}
 use Rattle.text.proofs.AnswerLaws.{too-long, bad-entry, no-room, all-written}
 use Rattle.text.proofs.PrintingLaws.{printing-judged}
-use Rattle.printing.proofs.SizeLaws.{at-most}
+use Rattle.judging.proofs.SizeLaws.{at-most}
 use borrow.Author.Needs.{needs}
 use Rattle.printing.proofs.print.Statement.{statement}
 use Rattle.printing.proofs.print.Tie as tie
 use Rattle.printing.proofs.print.Reads as reads
 use Rattle.printing.proofs.print.Lts as lts
-use Rattle.printing.proofs.first_bad.Reads as first-bad-reads
-use Rattle.printing.proofs.needed.Reads as needed-reads
+use Rattle.judging.proofs.first_bad.Reads as first-bad-reads
+use Rattle.judging.proofs.needed.Reads as needed-reads
 use Rattle.printing.proofs.write.Reads as write-reads
 
 returns : tie.Need-returns
@@ -37,20 +37,22 @@ returns-2 c =
     (bad-entry 8192 7 3 (length (a .args .words .now)) (firstNot mayPrint (a .args .words .now)) (a .args .room .now) (record { bytes = printed (a .args .case) (a .args .words .now); ends = endsPrinted (a .args .case) (a .args .words .now) }) (c .before .before .if1 .left) (bad .result) (bad .ensures) (omega (arith, bad .ensures, c .if2 .taken)))
 
 needed-requires : tie.Need-needed-requires
-needed-requires c κs = (omega arith, omega (arith, c .before .before .first-bad .ensures, c .before .if2 .left))
+needed-requires c κs = search needs
 
 returns-3 : tie.Need-returns-3
 returns-3 c =
     let a = c .before .before .before .before .before .before .before .before in
     let n = c .before .needed in
+    let all : length (a .args .words .now) ≤ firstNot mayPrint (a .args .words .now) = omega (arith, c .before .before .before .before .first-bad .ensures, c .before .before .before .if2 .left) in
     rw printing-judged
-    (no-room 8192 7 3 (length (a .args .words .now)) (firstNot mayPrint (a .args .words .now)) (a .args .room .now) (record { bytes = printed (a .args .case) (a .args .words .now); ends = endsPrinted (a .args .case) (a .args .words .now) }) (c .before .before .before .before .before .if1 .left) (omega (arith, c .before .before .before .before .first-bad .ensures, c .before .before .before .if2 .left)) (n .result) (n .ensures (a .args .case)) (c .if4 .taken))
+    (no-room 8192 7 3 (length (a .args .words .now)) (firstNot mayPrint (a .args .words .now)) (a .args .room .now) (record { bytes = printed (a .args .case) (a .args .words .now); ends = endsPrinted (a .args .case) (a .args .words .now) }) (c .before .before .before .before .before .if1 .left) all (n .result) (n .ensures all (a .args .case)) (c .if4 .taken))
 
 write-requires : tie.Need-write-requires
 write-requires c κs =
     let a = c .before .before .before .before .before .before .before in
+    let all : length (a .args .words .now) ≤ firstNot mayPrint (a .args .words .now) = omega (arith, c .before .before .before .first-bad .ensures, c .before .before .if2 .left) in
     ⊎-elim
-    (λ w. omega (arith, w .1 .ensures (a .args .case), w .2 .left))
+    (λ w. omega (arith, w .1 .ensures all (a .args .case), w .2 .left))
     (λ w. omega (arith, w .left, at-most (a .args .case) (a .args .words .now)))
     (c .before .if3 .came)
 
@@ -61,14 +63,15 @@ returns-4 : tie.Need-returns-4
 returns-4 c =
     let a = c .before .before .before .before .before .before .before .before .before .before in
     let w = c .before .before .write in
+    let all : length (a .args .words .now) ≤ firstNot mayPrint (a .args .words .now) = omega (arith, c .before .before .before .before .before .before .first-bad .ensures, c .before .before .before .before .before .if2 .left) in
     let fits : length (printed (a .args .case) (a .args .words .now)) ≤ length (a .args .room .now) =
     ⊎-elim
-    (λ w. omega (arith, w .1 .ensures (a .args .case), w .2 .left))
+    (λ w. omega (arith, w .1 .ensures all (a .args .case), w .2 .left))
     (λ w. omega (arith, w .left, at-most (a .args .case) (a .args .words .now)))
     (c .before .before .before .before .if3 .came) in
     rw printing-judged
     (all-written 8192 7 3 (length (a .args .words .now)) (firstNot mayPrint (a .args .words .now)) (a .args .room .now) (record { bytes = printed (a .args .case) (a .args .words .now); ends = endsPrinted (a .args .case) (a .args .words .now) }) (c .before .before .before .before .before .before .before .if1 .left)
-    (omega (arith, c .before .before .before .before .before .before .first-bad .ensures, c .before .before .before .before .before .if2 .left))
+    all
     (w .result .to)
     (w .ensures .wrote .ended ∙ zero-add _)
     (omega (arith, w .ensures .wrote .ended))

@@ -1,8 +1,8 @@
--- `printing::may_print` meets its contract. Assumes nothing.
+-- `judging::may_print` meets its contract. Assumes nothing.
 use borrow.Author.Needs.{needs}
 use Rattle.text.specs.Printing.{mayPrint}
-use Rattle.printing.proofs.may_print.Statement.{statement}
-use Rattle.printing.proofs.may_print.Tie as tie
+use Rattle.judging.proofs.may_print.Statement.{statement}
+use Rattle.judging.proofs.may_print.Tie as tie
 
 is-traffic-requires : tie.Need-is-traffic-requires
 is-traffic-requires c κs = search needs

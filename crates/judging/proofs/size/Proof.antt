@@ -1,9 +1,9 @@
--- `printing::size` meets its contract, test by test. Assumes nothing.
+-- `judging::size` meets its contract, test by test. Assumes nothing.
 use borrow.Author.Tests.{eq-eqb, ne-eqb}
-use Rattle.printing.proofs.size.Statement.{statement}
-use Rattle.printing.proofs.size.Tie as tie
-use Rattle.printing.proofs.size.Reads as reads
-use Rattle.printing.proofs.size.Lts as lts
+use Rattle.judging.proofs.size.Statement.{statement}
+use Rattle.judging.proofs.size.Tie as tie
+use Rattle.judging.proofs.size.Reads as reads
+use Rattle.judging.proofs.size.Lts as lts
 
 returns : tie.Need-returns
 returns c = rw (eq-eqb _ _ (c .if1 .taken))

@@ -1,8 +1,8 @@
--- `printing::first_bad` meets its contract. Assumes nothing.
+-- `judging::first_bad` meets its contract. Assumes nothing.
 use mathlib.Core.Path.{sym}
 use borrow.Author.Needs.{needs}
-use Rattle.printing.proofs.first_bad.Statement.{statement}
-use Rattle.printing.proofs.first_bad.Tie as tie
+use Rattle.judging.proofs.first_bad.Statement.{statement}
+use Rattle.judging.proofs.first_bad.Tie as tie
 
 all-may-requires : tie.Need-all-may-requires
 all-may-requires c κs = search needs

@@ -1,4 +1,4 @@
--- `printing::searched` meets its contract: what is passed may stand. Assumes nothing.
+-- `judging::searched` meets its contract: what is passed may stand. Assumes nothing.
 use mathlib.Core.Path.{_≡_, sym, _∙_}
 use Prim.Native.Nat.{_+_, _-_, _≤_}
 use native.Mathlib.Omega.{arith}
@@ -8,8 +8,8 @@ use borrow.Author.Tests.{not-true, not-false}
 use Rattle.text.specs.Printing.{mayPrint}
 use Rattle.signals.specs.Numbers.{firstNot}
 use Rattle.signals.proofs.NumberLaws.{first-next, first-here, first-end}
-use Rattle.printing.proofs.searched.Statement.{statement}
-use Rattle.printing.proofs.searched.Tie as tie
+use Rattle.judging.proofs.searched.Statement.{statement}
+use Rattle.judging.proofs.searched.Tie as tie
 
 abbrev Inv-loop : tie.InvT-loop
 Inv-loop words i₀ i = (i ≤ length words) × (i + firstNot mayPrint (drop i words) ≡ firstNot mayPrint words)

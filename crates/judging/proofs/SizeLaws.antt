@@ -17,7 +17,7 @@ use Rattle.signals.proofs.NumberLaws.{all-head}
 use Rattle.text.specs.Printing.{mayPrint, prints, printsIn, bytesOf, caseAt, printed, endsPrinted}
 use Rattle.text.proofs.WalkLaws.{length-next, all-end}
 use Rattle.text.proofs.PrintingLaws.{printed-walk}
-use Rattle.printing.specs.Run.{sizeOf}
+use Rattle.judging.specs.Size.{sizeOf}
 
 signal-alike : (c : Case) (s : Signal) → length (prints c s) ≡ length (prints Letters s)
 signal-alike Letters s = refl

@@ -1,4 +1,4 @@
--- `printing::all_may` meets its contract: while the answer is yes, what is passed may stand. Assumes nothing.
+-- `judging::all_may` meets its contract: while the answer is yes, what is passed may stand. Assumes nothing.
 use mathlib.Core.Path.{_≡_, refl, sym, _∙_}
 use mathlib.Core.Bool.{Bool, true, false, _&&_}
 use Prim.Native.Nat.{ℕ, _+_, _-_, _≤_}
@@ -8,11 +8,11 @@ use borrow.Author.Needs.{needs}
 use Rattle.signals.specs.Numbers.{firstNot}
 use Rattle.signals.proofs.NumberLaws.{first-next, first-end}
 use Rattle.text.specs.Printing.{mayPrint}
-use Rattle.printing.proofs.all_may.Statement.{statement}
-use Rattle.printing.proofs.all_may.Tie as tie
-use Rattle.printing.proofs.all_may.Reads as reads
-use Rattle.printing.proofs.all_may.Lts as lts
-use Rattle.printing.proofs.may_print.Reads as may-print-reads
+use Rattle.judging.proofs.all_may.Statement.{statement}
+use Rattle.judging.proofs.all_may.Tie as tie
+use Rattle.judging.proofs.all_may.Reads as reads
+use Rattle.judging.proofs.all_may.Lts as lts
+use Rattle.judging.proofs.may_print.Reads as may-print-reads
 
 both : (a b : Bool) → (a && b) ≡ true → (a ≡ true) × (b ≡ true)
 both true b e = (refl, e)

@@ -1,0 +1,3 @@
+-- Laws that the proofs here share, and `printing`'s.
+--     SizeLaws   how many bytes a word and a list print, in either case
+pub mod SizeLaws
