@@ -17,7 +17,7 @@ use Rattle.signals.proofs.NumberLaws.{all-head}
 use Rattle.text.specs.Printing.{mayPrint, prints, printsIn, bytesOf, caseAt, printed, endsPrinted}
 use Rattle.text.proofs.WalkLaws.{length-next, all-end}
 use Rattle.text.proofs.PrintingLaws.{printed-walk}
-use Rattle.judging.specs.Size.{sizeOf}
+use Rattle.judging.specs.Size.{sizeOf, sizesOf}
 
 signal-alike : (c : Case) (s : Signal) → length (prints c s) ≡ length (prints Letters s)
 signal-alike Letters s = refl
@@ -117,3 +117,17 @@ size-next s i h byte may c =
 
 pub size-end : (s : List ℕ) (c : Case) → length (printed c (drop (length s) s)) ≡ 0
 size-end s c = ap (λ (l : List ℕ). length l) (all-end printed endsPrinted bytesOf caseAt printed-walk c s)
+
+-- the same of what they are counted to need, whatever the words are
+pub sizes-next : (s : List ℕ) (i : ℕ) → i < length s → sizesOf (drop i s) ≡ sizeOf (getD s i 0) + sizesOf (drop (i + 1) s)
+unfolding sizesOf
+sizes-next [] i h = absurd (omega arith)
+sizes-next (x ∷ xs) zero h = refl
+sizes-next (x ∷ xs) (suc i) h =
+    let e : suc i + 1 ≡ suc (i + 1) = omega arith in
+    rw e (sizes-next xs i (omega arith))
+
+pub sizes-end : (s : List ℕ) → sizesOf (drop (length s) s) ≡ 0
+unfolding sizesOf
+sizes-end [] = refl
+sizes-end (x ∷ xs) = sizes-end xs

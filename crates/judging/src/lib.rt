@@ -7,7 +7,7 @@ ghost use lib.ListN.{length};
 ghost use Rattle.signals.specs.declared.Case.{Case};
 ghost use Rattle.signals.specs.Numbers.{firstNot};
 ghost use Rattle.text.specs.Printing.{mayPrint, printed};
-ghost use Rattle.judging.specs.Size.{sizeOf};
+ghost use Rattle.judging.specs.Size.{sizeOf, sizesOf};
 
 // The error mark in a list of signals (01, Text).
 pub const ERROR_MARK: u8 = 255;
@@ -78,7 +78,7 @@ fn size(word: u8) -> usize
 
 // The room that the words need where each may stand, whatever case they start in.
 pub fn needed(words: &[u8]) -> usize
-    ensures { λ r. ⌜ (length (now (words .entry)) ≤ firstNot mayPrint (now (words .entry)) → (c : Case) → r ≡ length (printed c (now (words .entry)))) ⌝ }
+    ensures { λ r. ⌜ (r ≡ sizesOf (now (words .entry))) × (length (now (words .entry)) ≤ firstNot mayPrint (now (words .entry)) → (c : Case) → r ≡ length (printed c (now (words .entry)))) ⌝ }
 {
     let mut room = 0;
     let mut i = 0;

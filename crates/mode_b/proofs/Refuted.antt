@@ -6,6 +6,7 @@
 --     no-last-lost           one that ends at two α in DX and prints nothing of the position before them
 -- Wrong fresh receivers. The code of that call is proved with no file, and a refused edit of it would tell no fact: so they are theorems.
 --     no-fresh-receiver-with-a-run   one whose search run is not 0, whichever its last signal is
+--     no-fresh-receiver-after-rq     one whose last signal is RQ
 --     no-fresh-receiver-in-phase     one that is in phase, whatever words it waits with
 -- Assumes nothing.
 use mathlib.Core.Path.{_≡_, ap, sym, _∙_}
@@ -59,6 +60,9 @@ no-last-lost h e p = let z : _≡_ {A = ℕ} 0 86 = sym e ∙ ap printedIn (p .0
 
 pub no-fresh-receiver-with-a-run : (r : Receiver) (run : ℕ) (last : Phasing) → r .hearing ≡ Searching (suc run) last → r ≡ freshReceiver → ⊥
 no-fresh-receiver-with-a-run r run last e p = let z : _≡_ {A = ℕ} 0 1 = cc in omega arith
+
+pub no-fresh-receiver-after-rq : (r : Receiver) (run : ℕ) → r .hearing ≡ Searching run Phasing.Two → r ≡ freshReceiver → ⊥
+no-fresh-receiver-after-rq r run e p = let z : _≡_ {A = ℕ} 0 1 = cc in omega arith
 
 pub no-fresh-receiver-in-phase : (r : Receiver) (phase : Phase) → r .hearing ≡ InPhase phase → r ≡ freshReceiver → ⊥
 no-fresh-receiver-in-phase r phase e p = let z : _≡_ {A = ℕ} 0 1 = cc in omega arith

@@ -10,6 +10,9 @@ use Rattle.laws.proofs.Unique.{unique}
 use Rattle.signals.specs.declared.Row.{Row}
 use Rattle.signals.specs.Meaning.{trafficOf}
 use Rattle.signals.specs.Rows.{row, Rows}
+use Rattle.signals.specs.Numbers.{firstNot}
+use Rattle.text.specs.Printing.{mayPrint}
+use Rattle.judging.specs.Size.{sizesOf}
 use Rattle.mode_a.specs.declared.Role.{Role}
 use Rattle.mode_a.specs.declared.Number.{Number}
 use Rattle.mode_a.specs.declared.Words.{Words}
@@ -32,6 +35,13 @@ rows-unique r r′ n n′ p q =
 -- `signals::is_traffic`
 pub is-traffic-unique : (w : ℕ) (r r′ : Bool) → r ≡ trafficOf w → r′ ≡ trafficOf w → r ≡ r′
 is-traffic-unique w r r′ p q = unique p q
+
+-- `judging::first_bad`, `judging::needed`
+pub first-bad-unique : (ws : List ℕ) (r r′ : ℕ) → r ≡ firstNot mayPrint ws → r′ ≡ firstNot mayPrint ws → r ≡ r′
+first-bad-unique ws r r′ p q = unique p q
+
+pub needed-unique : (ws : List ℕ) (r r′ : ℕ) → r ≡ sizesOf ws → r′ ≡ sizesOf ws → r ≡ r′
+needed-unique ws r r′ p q = unique p q
 
 -- `mode_a::may_hold`, and the functions of `Number`
 pub may-hold-unique : (w : ℕ) (r r′ : Bool) → r ≡ mayHold w → r′ ≡ mayHold w → r ≡ r′

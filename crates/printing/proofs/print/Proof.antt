@@ -45,14 +45,14 @@ returns-3 c =
     let n = c .before .needed in
     let all : length (a .args .words .now) ≤ firstNot mayPrint (a .args .words .now) = omega (arith, c .before .before .before .before .first-bad .ensures, c .before .before .before .if2 .left) in
     rw printing-judged
-    (no-room 8192 7 3 (length (a .args .words .now)) (firstNot mayPrint (a .args .words .now)) (a .args .room .now) (record { bytes = printed (a .args .case) (a .args .words .now); ends = endsPrinted (a .args .case) (a .args .words .now) }) (c .before .before .before .before .before .if1 .left) all (n .result) (n .ensures all (a .args .case)) (c .if4 .taken))
+    (no-room 8192 7 3 (length (a .args .words .now)) (firstNot mayPrint (a .args .words .now)) (a .args .room .now) (record { bytes = printed (a .args .case) (a .args .words .now); ends = endsPrinted (a .args .case) (a .args .words .now) }) (c .before .before .before .before .before .if1 .left) all (n .result) (n .ensures .1 all (a .args .case)) (c .if4 .taken))
 
 write-requires : tie.Need-write-requires
 write-requires c κs =
     let a = c .before .before .before .before .before .before .before in
     let all : length (a .args .words .now) ≤ firstNot mayPrint (a .args .words .now) = omega (arith, c .before .before .before .first-bad .ensures, c .before .before .if2 .left) in
     ⊎-elim
-    (λ w. omega (arith, w .1 .ensures all (a .args .case), w .2 .left))
+    (λ w. omega (arith, w .1 .ensures .1 all (a .args .case), w .2 .left))
     (λ w. omega (arith, w .left, at-most (a .args .case) (a .args .words .now)))
     (c .before .if3 .came)
 
@@ -66,7 +66,7 @@ returns-4 c =
     let all : length (a .args .words .now) ≤ firstNot mayPrint (a .args .words .now) = omega (arith, c .before .before .before .before .before .before .first-bad .ensures, c .before .before .before .before .before .if2 .left) in
     let fits : length (printed (a .args .case) (a .args .words .now)) ≤ length (a .args .room .now) =
     ⊎-elim
-    (λ w. omega (arith, w .1 .ensures all (a .args .case), w .2 .left))
+    (λ w. omega (arith, w .1 .ensures .1 all (a .args .case), w .2 .left))
     (λ w. omega (arith, w .left, at-most (a .args .case) (a .args .words .now)))
     (c .before .before .before .before .if3 .came) in
     rw printing-judged
