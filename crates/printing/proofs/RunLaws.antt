@@ -70,7 +70,7 @@ stands at to c = record { at = at; to = to; case = c }
 -- one word
 module _ {c : Case} {ws : List ℕ} {at : ℕ} (h : at < length ws) {out : List ℕ} {to : ℕ} where
   module _ {d : Case} (e : caseAt c (getD ws at 0) ≡ d) where
-    pub word-silent : bytesOf c (getD ws at 0) ≡ [] → Going c ws at out to (stands (at + 1) to d) out
+    word-silent : bytesOf c (getD ws at 0) ≡ [] → Going c ws at out to (stands (at + 1) to d) out
     word-silent z =
         record {
           from = omega arith;
@@ -81,7 +81,7 @@ module _ {c : Case} {ws : List ℕ} {at : ℕ} (h : at < length ws) {out : List 
           ends = ends-next printed endsPrinted bytesOf caseAt printed-walk ws at h c ∙ rw e;
         }
 
-    pub word-prints : {g : ℕ} → bytesOf c (getD ws at 0) ≡ g ∷ [] → Going c ws at out to (stands (at + 1) (to + 1) d) (set out to g)
+    word-prints : {g : ℕ} → bytesOf c (getD ws at 0) ≡ g ∷ [] → Going c ws at out to (stands (at + 1) (to + 1) d) (set out to g)
     word-prints {g} z =
         record {
           from = omega arith;

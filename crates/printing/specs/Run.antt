@@ -1,4 +1,4 @@
--- A run: words printed in one case, up to a shift to the other; and runs one after the other. Assumes nothing.
+-- A run: words printed in one case, up to a shift to the other; and one run after the other. Assumes nothing.
 use mathlib.Core.Path.{_≡_}
 use mathlib.Core.Logic.{_⊎_}
 use mathlib.Core.List.{List, _++_}
