@@ -162,6 +162,7 @@ class Tree:
         for path in sorted(glob.glob("crates/**/*.antt", recursive=True)):
             self.items += antt_items(path)
         self.functions = []
+        self.type_heads = {}
         self.types, self.type_texts, self.consts, self.const_lines, self.parts = {}, [], {}, {}, set()
         for path in sorted(glob.glob("crates/*/src/**/*.rt", recursive=True)):
             self.functions += functions_of(path)
@@ -170,6 +171,7 @@ class Tree:
             for kind, name, body in re.findall(r"^(?:pub )?(struct|enum) (\w+)(.*?)^(?:\}|(?=\S))", text + "\n;", re.M | re.S):
                 self.types.setdefault(name, set()).add(crate)
                 self.type_texts.append((path, name, plain("%s %s" % (kind, body))))
+                self.type_heads[path, name] = "pub %s %s%s" % (kind, name, body.rstrip()) + ("\n}" if body.lstrip().startswith("{") else "")
                 self.parts |= set(re.findall(r"\b(\w+)\b(?=\s*[:(,{])", body))
             for line, name in re.findall(r"^(\s*(?:pub )?const (\w+).*)", text, re.M):
                 self.consts.setdefault(name, set()).add(crate)

@@ -1,5 +1,5 @@
--- Demand 3 cannot be said more strongly, and it tells wrong readings of the rows from 01's: each stronger sentence, and the same
--- sentence over each wrong reading, is refuted by a computed run.
+-- What might be said more strongly than demand 3 says it and does not hold, and wrong readings of the rows that it tells from 01's:
+-- each stronger sentence, and the same sentence over each wrong reading, is refuted by a computed run.
 --     no-…             what more might be said
 --     …-is-caught      a wrong reading, and the sentence that a run over it breaks; over 01's rows the sentences hold
 --                      (right-carries, right-keeps, right-exchanges)

@@ -62,7 +62,7 @@ slotsOf text = slotsFrom idle idle (positionsOf text)
 --     dx            "Position t goes out first (DX) in slot 2t"                              R-102
 --     rx            "and again (RX) in slot 2t+5, after four other signals",                 R-102, R-110
 --                   where there is such a slot: "RX copies due later are not sent",
---                   and those of the last two positions are
+--                   those of the last two positions
 --     before-0      "Before position 0, RX slots carry α": slots 1 and 3                     R-104
 --     last          "The last slot is number 2t+1, where t is the last position"             R-109
 pub record SentTwice (positions : List Position) (slots : List ℕ) : Type 0 where
