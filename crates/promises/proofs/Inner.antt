@@ -17,10 +17,14 @@ use Rattle.mode_a.specs.declared.Role.{Role}
 use Rattle.mode_a.specs.declared.Number.{Number}
 use Rattle.mode_a.specs.declared.Words.{Words}
 use Rattle.mode_a.specs.declared.Place.{Place}
+use Rattle.mode_a.specs.declared.Offer.{Offer}
+use Rattle.mode_a.specs.declared.Station.{Station}
+use Rattle.mode_a.specs.declared.Reply.{Reply}
 use Rattle.mode_a.specs.declared.Doing.{Doing}
 use Rattle.mode_a.specs.Station.{other, same, asksFor}
 use Rattle.mode_a.specs.Heard.{mayHold}
 use Rattle.mode_a.specs.Rows.{requests}
+use Rattle.mode_a.specs.Step.{done}
 use Rattle.table.specs.declared.Kind.{Kind}
 use Rattle.table.specs.declared.Action.{Action}
 use Rattle.table.specs.Kinds.{kindOf}
@@ -69,3 +73,7 @@ doing-unique action role place r r′ p q = unique p q
 
 pub requests-unique : (role : Role) (r r′ : Words) → r ≡ requests role → r′ ≡ requests role → r ≡ r′
 requests-unique role r r′ p q = unique p q
+
+-- `replies::done`
+pub done-unique : (s : Station) (b : Words) (o : Offer) (d : Doing) (r r′ : Reply) → r ≡ done s b o d → r′ ≡ done s b o d → r ≡ r′
+done-unique s b o d r r′ p q = unique p q

@@ -1,3 +1,3 @@
 -- What the station's own functions answer, beside the rules of `mode_a`.
---     Parts   traffic signals word by word; the first bad word of an offer
+--     Parts   the first bad word of an offer
 pub mod Parts

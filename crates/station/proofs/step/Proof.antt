@@ -16,8 +16,8 @@ use Rattle.station.proofs.step.Reads as reads
 use Rattle.station.proofs.step.Lts as lts
 use Rattle.moves.proofs.doing.Reads as doing-reads
 use Rattle.station.proofs.bad_offer.Reads as bad-offer-reads
-use Rattle.station.proofs.done.Reads as done-reads
 use Rattle.station.proofs.sound.Reads as sound-reads
+use Rattle.replies.proofs.done.Reads as done-reads
 use Rattle.table.proofs.action_at.Reads as action-at-reads
 use Rattle.table.proofs.kind_of.Reads as kind-of-reads
 

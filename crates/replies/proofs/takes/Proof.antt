@@ -1,11 +1,11 @@
--- `station::takes` meets its contract. Assumes nothing.
+-- `replies::takes` meets its contract. Assumes nothing.
 use borrow.Author.Needs.{needs}
-use Rattle.station.proofs.takes.Statement.{statement}
-use Rattle.station.proofs.takes.Tie as tie
-use Rattle.station.proofs.takes.Reads as reads
-use Rattle.station.proofs.takes.Lts as lts
-use Rattle.station.proofs.holds.Reads as holds-reads
-use Rattle.station.proofs.moved_to.Reads as moved-to-reads
+use Rattle.replies.proofs.takes.Statement.{statement}
+use Rattle.replies.proofs.takes.Tie as tie
+use Rattle.replies.proofs.takes.Reads as reads
+use Rattle.replies.proofs.takes.Lts as lts
+use Rattle.replies.proofs.holds.Reads as holds-reads
+use Rattle.replies.proofs.moved_to.Reads as moved-to-reads
 
 enum-known-offer : tie.Need-enum-known-offer
 enum-known-offer c = search needs

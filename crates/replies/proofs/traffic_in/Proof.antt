@@ -1,12 +1,12 @@
--- `station::traffic_in` meets its contract. Assumes nothing.
+-- `replies::traffic_in` meets its contract. Assumes nothing.
 use mathlib.Core.Path.{_∙_}
-use Rattle.station.proofs.PartLaws.{prepends}
+use Rattle.replies.proofs.PartLaws.{prepends}
 use borrow.Author.Needs.{needs}
-use Rattle.station.proofs.traffic_in.Statement.{statement}
-use Rattle.station.proofs.traffic_in.Tie as tie
-use Rattle.station.proofs.traffic_in.Reads as reads
-use Rattle.station.proofs.traffic_in.Lts as lts
-use Rattle.station.proofs.prepended.Reads as prepended-reads
+use Rattle.replies.proofs.traffic_in.Statement.{statement}
+use Rattle.replies.proofs.traffic_in.Tie as tie
+use Rattle.replies.proofs.traffic_in.Reads as reads
+use Rattle.replies.proofs.traffic_in.Lts as lts
+use Rattle.replies.proofs.prepended.Reads as prepended-reads
 
 prepended-requires : tie.Need-prepended-requires
 prepended-requires c κs = search needs

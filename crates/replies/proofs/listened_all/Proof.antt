@@ -1,10 +1,10 @@
--- `station::listened_all` meets its contract. Assumes nothing.
+-- `replies::listened_all` meets its contract. Assumes nothing.
 use borrow.Author.Needs.{needs}
-use Rattle.station.proofs.listened_all.Statement.{statement}
-use Rattle.station.proofs.listened_all.Tie as tie
-use Rattle.station.proofs.listened_all.Reads as reads
-use Rattle.station.proofs.listened_all.Lts as lts
-use Rattle.station.proofs.listened.Reads as listened-reads
+use Rattle.replies.proofs.listened_all.Statement.{statement}
+use Rattle.replies.proofs.listened_all.Tie as tie
+use Rattle.replies.proofs.listened_all.Reads as reads
+use Rattle.replies.proofs.listened_all.Lts as lts
+use Rattle.replies.proofs.listened.Reads as listened-reads
 
 listened-requires : tie.Need-listened-requires
 listened-requires c κs = search needs

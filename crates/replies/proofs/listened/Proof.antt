@@ -1,12 +1,12 @@
--- `station::listened` meets its contract. Assumes nothing.
+-- `replies::listened` meets its contract. Assumes nothing.
 use borrow.Author.Tests.{eq-eqb, ne-eqb}
 use Rattle.mode_a.specs.Over.{listened}
 use borrow.Author.Needs.{needs}
-use Rattle.station.proofs.listened.Statement.{statement}
-use Rattle.station.proofs.listened.Tie as tie
-use Rattle.station.proofs.listened.Reads as reads
-use Rattle.station.proofs.listened.Lts as lts
-use Rattle.station.proofs.signal_in.Reads as signal-in-reads
+use Rattle.replies.proofs.listened.Statement.{statement}
+use Rattle.replies.proofs.listened.Tie as tie
+use Rattle.replies.proofs.listened.Reads as reads
+use Rattle.replies.proofs.listened.Lts as lts
+use Rattle.replies.proofs.signal_in.Reads as signal-in-reads
 
 returns : tie.Need-returns
 unfolding listened

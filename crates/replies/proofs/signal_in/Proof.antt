@@ -1,10 +1,10 @@
--- `station::signal_in` meets its contract. Assumes nothing.
+-- `replies::signal_in` meets its contract. Assumes nothing.
 use borrow.Author.Tests.{eq-eqb, ne-eqb}
 use borrow.Author.Needs.{needs}
-use Rattle.station.proofs.signal_in.Statement.{statement}
-use Rattle.station.proofs.signal_in.Tie as tie
-use Rattle.station.proofs.signal_in.Reads as reads
-use Rattle.station.proofs.signal_in.Lts as lts
+use Rattle.replies.proofs.signal_in.Statement.{statement}
+use Rattle.replies.proofs.signal_in.Tie as tie
+use Rattle.replies.proofs.signal_in.Reads as reads
+use Rattle.replies.proofs.signal_in.Lts as lts
 
 enum-told : tie.Need-enum-told
 enum-told c = search needs

@@ -1,18 +1,18 @@
--- `station::done` meets its contract. Assumes nothing.
+-- `replies::done` meets its contract. Assumes nothing.
 use Rattle.mode_a.specs.Step.{done}
 use borrow.Author.Needs.{needs}
-use Rattle.station.proofs.done.Statement.{statement}
-use Rattle.station.proofs.done.Tie as tie
-use Rattle.station.proofs.done.Reads as reads
-use Rattle.station.proofs.done.Lts as lts
+use Rattle.replies.proofs.done.Statement.{statement}
+use Rattle.replies.proofs.done.Tie as tie
+use Rattle.replies.proofs.done.Reads as reads
+use Rattle.replies.proofs.done.Lts as lts
 use Rattle.mode_a.proofs.Number.asks.Reads as asks-reads
 use Rattle.moves.proofs.requests.Reads as requests-reads
-use Rattle.station.proofs.accepts.Reads as accepts-reads
-use Rattle.station.proofs.cancelled_to.Reads as cancelled-to-reads
-use Rattle.station.proofs.moved_to.Reads as moved-to-reads
-use Rattle.station.proofs.repeats.Reads as repeats-reads
-use Rattle.station.proofs.sends.Reads as sends-reads
-use Rattle.station.proofs.takes.Reads as takes-reads
+use Rattle.replies.proofs.accepts.Reads as accepts-reads
+use Rattle.replies.proofs.cancelled_to.Reads as cancelled-to-reads
+use Rattle.replies.proofs.moved_to.Reads as moved-to-reads
+use Rattle.replies.proofs.repeats.Reads as repeats-reads
+use Rattle.replies.proofs.sends.Reads as sends-reads
+use Rattle.replies.proofs.takes.Reads as takes-reads
 
 enum-known-doing : tie.Need-enum-known-doing
 enum-known-doing c = search needs

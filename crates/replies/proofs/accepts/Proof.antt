@@ -1,16 +1,16 @@
--- `station::accepts` meets its contract. Assumes nothing.
-use Rattle.station.proofs.PartLaws.{over-offered, over-heard, goes-on}
+-- `replies::accepts` meets its contract. Assumes nothing.
+use Rattle.replies.proofs.PartLaws.{over-offered, over-heard, goes-on}
 use borrow.Author.Needs.{needs}
-use Rattle.station.proofs.accepts.Statement.{statement}
-use Rattle.station.proofs.accepts.Tie as tie
-use Rattle.station.proofs.accepts.Reads as reads
-use Rattle.station.proofs.accepts.Lts as lts
+use Rattle.replies.proofs.accepts.Statement.{statement}
+use Rattle.replies.proofs.accepts.Tie as tie
+use Rattle.replies.proofs.accepts.Reads as reads
+use Rattle.replies.proofs.accepts.Lts as lts
 use Rattle.mode_a.proofs.Number.asks.Reads as asks-reads
 use Rattle.mode_a.proofs.Number.other.Reads as other-reads
-use Rattle.station.proofs.heard_at.Reads as heard-at-reads
-use Rattle.station.proofs.is_over.Reads as is-over-reads
-use Rattle.station.proofs.listened_all.Reads as listened-all-reads
-use Rattle.station.proofs.traffic_in.Reads as traffic-in-reads
+use Rattle.replies.proofs.heard_at.Reads as heard-at-reads
+use Rattle.replies.proofs.is_over.Reads as is-over-reads
+use Rattle.replies.proofs.listened_all.Reads as listened-all-reads
+use Rattle.replies.proofs.traffic_in.Reads as traffic-in-reads
 
 listened-all-requires : tie.Need-listened-all-requires
 listened-all-requires c κs = search needs

@@ -1,12 +1,12 @@
--- `station::repeats` meets its contract. Assumes nothing.
+-- `replies::repeats` meets its contract. Assumes nothing.
 use borrow.Author.Tests.{le-leb, lt-leb}
 use borrow.Author.Needs.{needs}
-use Rattle.station.proofs.repeats.Statement.{statement}
-use Rattle.station.proofs.repeats.Tie as tie
-use Rattle.station.proofs.repeats.Reads as reads
-use Rattle.station.proofs.repeats.Lts as lts
-use Rattle.station.proofs.moved_to.Reads as moved-to-reads
-use Rattle.station.proofs.sends.Reads as sends-reads
+use Rattle.replies.proofs.repeats.Statement.{statement}
+use Rattle.replies.proofs.repeats.Tie as tie
+use Rattle.replies.proofs.repeats.Reads as reads
+use Rattle.replies.proofs.repeats.Lts as lts
+use Rattle.replies.proofs.moved_to.Reads as moved-to-reads
+use Rattle.replies.proofs.sends.Reads as sends-reads
 
 sub-if1 : tie.Need-sub-if1
 sub-if1 c = search needs

@@ -1,0 +1,3 @@
+-- Laws that the proofs of this crate share.
+--     PartLaws   traffic signals word by word; an accepted block
+mod PartLaws
