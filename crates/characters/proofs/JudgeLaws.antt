@@ -44,7 +44,7 @@ pub record Judged (text numbers : List ℕ) (i : ℕ) : Type 0 where
   listed : Passed (numbered numbers) text i
   signalled : Numbers numbers → Passed hasSignal text i
 
--- i is the first byte that has no number there; and none that has no signal comes before it, where it is that table
+-- i is the first byte without a number in it; and the first without a signal, where it is that table
 abbrev pub Found : List ℕ → List ℕ → ℕ → Type 0
 Found text numbers i = (i ≡ firstNot (numbered numbers) text) × (Numbers numbers → i ≡ firstNot hasSignal text)
 

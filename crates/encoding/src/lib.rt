@@ -1,4 +1,4 @@
-// Encoding: operator's characters to signals (01, Text).
+// Encoding: operator's characters to signals (01, Text). The text is judged whole before a signal is written (`characters`).
 ghost use mathlib.Core.Path.{_≡_};
 ghost use Prim.Native.Nat.{_+_, _≤_};
 ghost use lib.ListN.{length};
