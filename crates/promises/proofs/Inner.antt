@@ -12,6 +12,7 @@ use Rattle.signals.specs.Meaning.{trafficOf}
 use Rattle.signals.specs.Rows.{row, Rows}
 use Rattle.signals.specs.Numbers.{firstNot}
 use Rattle.text.specs.Printing.{mayPrint}
+use Rattle.characters.specs.Holder.{Numbers, numbered}
 use Rattle.judging.specs.Size.{sizesOf}
 use Rattle.mode_a.specs.declared.Role.{Role}
 use Rattle.mode_a.specs.declared.Number.{Number}
@@ -39,6 +40,14 @@ rows-unique r r′ n n′ p q =
 -- `signals::is_traffic`
 pub is-traffic-unique : (w : ℕ) (r r′ : Bool) → r ≡ trafficOf w → r′ ≡ trafficOf w → r ≡ r′
 is-traffic-unique w r r′ p q = unique p q
+
+-- `characters::numbers`: the length, 256, is the answer's type; `characters::first_without`, whatever table is lent
+pub numbers-unique : (r r′ : List ℕ) → length r ≡ 256 → length r′ ≡ 256 → Numbers r → Numbers r′ → r ≡ r′
+numbers-unique r r′ n n′ p q =
+    ext-getD 0 r r′ (unique n n′) (λ x h. unique (p x (subst (λ k. x < k) n h)) (q x (subst (λ k. x < k) n h)))
+
+pub first-without-unique : (text numbers : List ℕ) (r r′ : ℕ) → r ≡ firstNot (numbered numbers) text → r′ ≡ firstNot (numbered numbers) text → r ≡ r′
+first-without-unique text numbers r r′ p q = unique p q
 
 -- `judging::first_bad`, `judging::needed`
 pub first-bad-unique : (ws : List ℕ) (r r′ : ℕ) → r ≡ firstNot mayPrint ws → r′ ≡ firstNot mayPrint ws → r ≡ r′

@@ -35,8 +35,9 @@ returns-2 c =
     let case = a .args .case in
     let room = a .args .room .now in
     let f = c .before .first-without in
+    let is = f .ensures .1 (c .before .before .before .numbers .ensures) in
     rw encoding-judged
-    (bad-entry 4096 5 1 (length text) (firstNot hasSignal text) room (record { bytes = encoded case text; ends = endsEncoded case text }) (c .before .before .before .before .if1 .left) (f .result) (f .ensures) (omega (arith, f .ensures, c .if2 .taken)))
+    (bad-entry 4096 5 1 (length text) (firstNot hasSignal text) room (record { bytes = encoded case text; ends = endsEncoded case text }) (c .before .before .before .before .if1 .left) (f .result) is (omega (arith, is, c .if2 .taken)))
 
 rows-requires : tie.Need-rows-requires
 rows-requires c κs = search needs
@@ -45,7 +46,10 @@ mul-if3 : tie.Need-mul-if3
 mul-if3 c = search needs
 
 room-for-requires : tie.Need-room-for-requires
-room-for-requires c κs = search needs
+room-for-requires c κs =
+    let numbers = c .before .before .before .before .before .before .numbers .ensures in
+    let is = c .before .before .before .before .first-without .ensures .1 numbers in
+    (numbers, c .before .before .rows .ensures, omega arith, omega (arith, is, c .before .before .before .if2 .left))
 
 returns-3 : tie.Need-returns-3
 returns-3 c =
@@ -53,10 +57,10 @@ returns-3 c =
     let text = a .args .text .now in
     let case = a .args .case in
     let room = a .args .room .now in
-    let f = c .before .before .before .before .before .before .first-without in
+    let is = c .before .before .before .before .before .before .first-without .ensures .1 (c .before .before .before .before .before .before .before .before .numbers .ensures) in
     let n = c .before .room-for in
     rw encoding-judged
-    (no-room 4096 5 1 (length text) (firstNot hasSignal text) room (record { bytes = encoded case text; ends = endsEncoded case text }) (c .before .before .before .before .before .before .before .before .before .if1 .left) (omega (arith, f .ensures, c .before .before .before .before .before .if2 .left)) (n .result) (n .ensures) (c .if4 .taken))
+    (no-room 4096 5 1 (length text) (firstNot hasSignal text) room (record { bytes = encoded case text; ends = endsEncoded case text }) (c .before .before .before .before .before .before .before .before .before .if1 .left) (omega (arith, is, c .before .before .before .before .before .if2 .left)) (n .result) (n .ensures) (c .if4 .taken))
 
 write-requires : tie.Need-write-requires
 write-requires c κs =
@@ -65,7 +69,9 @@ write-requires c κs =
     let case = a .args .case in
     let room = a .args .room .now in
     let fits : length (encoded case text) ≤ length room = ⊎-elim (λ w. omega (arith, encoded-le case text)) (λ w. omega (arith, encoded-le case text)) (c .before .before .if3 .came) in
-    (c .before .before .before .before .before .before .before .numbers .ensures, c .before .before .before .rows .ensures, omega (arith, c .before .before .before .before .before .first-without .ensures, c .before .before .before .before .if2 .left), fits)
+    let numbers = c .before .before .before .before .before .before .before .numbers .ensures in
+    let is = c .before .before .before .before .before .first-without .ensures .1 numbers in
+    (numbers, c .before .before .before .rows .ensures, omega (arith, is, c .before .before .before .before .if2 .left), fits)
 
 same-length : tie.Need-same-length
 same-length c = search needs
@@ -77,10 +83,10 @@ returns-4 c =
     let case = a .args .case in
     let room = a .args .room .now in
     let fits : length (encoded case text) ≤ length room = ⊎-elim (λ w. omega (arith, encoded-le case text)) (λ w. omega (arith, encoded-le case text)) (c .before .before .before .before .before .if3 .came) in
-    let f = c .before .before .before .before .before .before .before .before .first-without in
+    let is = c .before .before .before .before .before .before .before .before .first-without .ensures .1 (c .before .before .before .before .before .before .before .before .before .before .numbers .ensures) in
     let w = c .before .before .write in
     rw encoding-judged
-    (all-written 4096 5 1 (length text) (firstNot hasSignal text) room (record { bytes = encoded case text; ends = endsEncoded case text }) (c .before .before .before .before .before .before .before .before .before .before .before .if1 .left) (omega (arith, f .ensures, c .before .before .before .before .before .before .before .if2 .left))
+    (all-written 4096 5 1 (length text) (firstNot hasSignal text) room (record { bytes = encoded case text; ends = endsEncoded case text }) (c .before .before .before .before .before .before .before .before .before .before .before .if1 .left) (omega (arith, is, c .before .before .before .before .before .before .before .if2 .left))
     (w .result .at)
     (w .ensures .0 .ended ∙ zero-add _)
     (omega (arith, w .ensures .0 .ended))

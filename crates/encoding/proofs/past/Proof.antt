@@ -2,7 +2,7 @@
 use mathlib.Core.Path.{refl}
 use borrow.Author.Needs.{needs}
 use Rattle.signals.specs.declared.Case.the-variants.{Letters, Figures}
-use Rattle.encoding.proofs.CharacterLaws.{stands, shifts}
+use Rattle.characters.proofs.CharacterLaws.{stands, shifts}
 use Rattle.encoding.proofs.past.Statement.{statement}
 use Rattle.encoding.proofs.past.Tie as tie
 

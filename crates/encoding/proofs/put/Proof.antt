@@ -5,7 +5,7 @@ use native.Mathlib.Omega.{arith}
 use lib.ListN.{length-append}
 use Rattle.laws.proofs.Writes.{wrote-then}
 use Rattle.text.specs.Encoding.{characterOf, caseAfter, shift}
-use Rattle.encoding.proofs.CharacterLaws.{shift-then}
+use Rattle.characters.proofs.CharacterLaws.{shift-then}
 use borrow.Author.Needs.{needs}
 use Rattle.encoding.proofs.put.Statement.{statement}
 use Rattle.encoding.proofs.put.Tie as tie

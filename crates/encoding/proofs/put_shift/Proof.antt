@@ -3,7 +3,7 @@ use mathlib.Core.Path.{refl, sym}
 use native.Mathlib.Nat.{add-zero}
 use native.Mathlib.Omega.{arith}
 use Rattle.signals.specs.declared.Case.the-variants.{Letters, Figures}
-use Rattle.encoding.proofs.CharacterLaws.{stands, shifts}
+use Rattle.characters.proofs.CharacterLaws.{stands, shifts}
 use borrow.Author.Needs.{needs}
 use Rattle.encoding.proofs.put_shift.Statement.{statement}
 use Rattle.encoding.proofs.put_shift.Tie as tie

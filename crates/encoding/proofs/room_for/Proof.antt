@@ -2,7 +2,7 @@
 use Prim.Native.Nat.{_-_, _<_}
 use native.Mathlib.Omega.{arith}
 use lib.ListN.{length, getD}
-use Rattle.encoding.proofs.CharacterLaws.{number-le, number-pos, place-below, has-row}
+use Rattle.characters.proofs.CharacterLaws.{number-le, number-pos, place-below, has-row}
 use Rattle.encoding.proofs.WriteLaws.{Turning, turn-starts, turn-small, turn-next, turn-count, has-at}
 use Rattle.encoding.proofs.room_for.Statement.{statement}
 use Rattle.encoding.proofs.room_for.Tie as tie

@@ -3,7 +3,7 @@
 use Prim.Native.Nat.{_-_, _<_}
 use native.Mathlib.Omega.{arith}
 use lib.ListN.{length, getD}
-use Rattle.encoding.proofs.CharacterLaws.{number-le, number-pos, place-below, has-row}
+use Rattle.characters.proofs.CharacterLaws.{number-le, number-pos, place-below, has-row}
 use Rattle.encoding.proofs.WriteLaws.{Writing, write-starts, write-next, write-ends, turn-room, turn-end, has-at}
 use Rattle.encoding.proofs.write.Statement.{statement}
 use Rattle.encoding.proofs.write.Tie as tie

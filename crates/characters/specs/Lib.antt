@@ -1,3 +1,3 @@
--- What the encoder's own table holds, beside the rules of `text`.
+-- What the table of characters holds, beside the rules of `text`.
 --     Holder   the table from characters to signal numbers
 pub mod Holder

@@ -1,29 +1,29 @@
--- `encoding::first_without` meets its contract: every byte passed has a signal. Assumes nothing.
+-- `characters::first_without` meets its contract: every byte passed has a signal. Assumes nothing.
 use mathlib.Core.Path.{refl}
 use Prim.Native.Nat.{_+_, _-_}
 use native.Mathlib.Omega.{arith}
 use lib.ListN.{length}
-use Rattle.encoding.proofs.JudgeLaws.{Judged, judge-starts, judge-next, judge-stops, judge-ends}
-use Rattle.encoding.proofs.first_without.Statement.{statement}
-use Rattle.encoding.proofs.first_without.Tie as tie
+use Rattle.characters.proofs.JudgeLaws.{Judged, judge-starts, judge-next, judge-stops, judge-ends}
+use Rattle.characters.proofs.first_without.Statement.{statement}
+use Rattle.characters.proofs.first_without.Tie as tie
 
 abbrev Inv-loop : tie.InvT-loop
-Inv-loop text numbers i₀ i = Judged text i
+Inv-loop text numbers i₀ i = Judged text numbers i
 
 abbrev μ-loop : tie.MeasureT-loop
 μ-loop text numbers i₀ i = length text - i
 
 abbrev Inv-loop2 : tie.InvT-loop2
-Inv-loop2 text numbers i₀ i = Judged text i
+Inv-loop2 text numbers i₀ i = Judged text numbers i
 
 abbrev μ-loop2 : tie.MeasureT-loop2
 μ-loop2 text numbers i₀ i = length text - i
 
 loop-holds : tie.Need-loop-holds Inv-loop μ-loop Inv-loop2 μ-loop2
-loop-holds c = judge-starts (c .args .text .now)
+loop-holds c = judge-starts (c .args .text .now) (c .args .numbers .now)
 
 add-loop : tie.Need-add-loop Inv-loop μ-loop Inv-loop2 μ-loop2
-add-loop c = omega (arith, c .before .pre .1, c .loop .inv .within)
+add-loop c = omega (arith, c .before .good .0 .1, c .loop .inv .within)
 
 shared-slice-read-if1 : tie.Need-shared-slice-read-if1 Inv-loop μ-loop Inv-loop2 μ-loop2
 shared-slice-read-if1 c = omega arith
@@ -41,7 +41,7 @@ returns c =
     let text = a .args .text .now in
     let numbers = a .args .numbers .now in
     let known = c .before .before .shared-slice-known .given in
-    judge-stops text (l .i) (l .inv) numbers (a .pre .0) (omega (arith, known (l .i))) (omega arith) (c .if1 .taken)
+    judge-stops text numbers (l .i) (l .inv) (omega (arith, known (l .i))) (omega arith) (c .if1 .taken)
 
 add-if2 : tie.Need-add-if2 Inv-loop μ-loop Inv-loop2 μ-loop2
 add-if2 c = omega arith
@@ -65,8 +65,8 @@ returns-2 c =
     let text = a .args .text .now in
     let numbers = a .args .numbers .now in
     let known = c .before .before .shared-slice-known2 .given in
-    let g1 = judge-next text (l .i) (l .inv) numbers (a .pre .0) (omega (arith, known (l .i))) (omega arith) (c .before .before .before .if1 .left) (l .i + 1) refl in
-    judge-stops text (l .i + 1) g1 numbers (a .pre .0) (omega (arith, known (l .i + 1))) (omega arith) (c .if2 .taken)
+    let g1 = judge-next text numbers (l .i) (l .inv) (omega (arith, known (l .i))) (omega arith) (c .before .before .before .if1 .left) (l .i + 1) refl in
+    judge-stops text numbers (l .i + 1) g1 (omega (arith, known (l .i + 1))) (omega arith) (c .if2 .taken)
 
 add-if3 : tie.Need-add-if3 Inv-loop μ-loop Inv-loop2 μ-loop2
 add-if3 c = omega arith
@@ -90,9 +90,9 @@ returns-3 c =
     let text = a .args .text .now in
     let numbers = a .args .numbers .now in
     let known = c .before .before .shared-slice-known3 .given in
-    let g1 = judge-next text (l .i) (l .inv) numbers (a .pre .0) (omega (arith, known (l .i))) (omega arith) (c .before .before .before .before .before .before .if1 .left) (l .i + 1) refl in
-    let g2 = judge-next text (l .i + 1) g1 numbers (a .pre .0) (omega (arith, known (l .i + 1))) (omega arith) (c .before .before .before .if2 .left) (l .i + 2) (omega arith) in
-    judge-stops text (l .i + 2) g2 numbers (a .pre .0) (omega (arith, known (l .i + 2))) (omega arith) (c .if3 .taken)
+    let g1 = judge-next text numbers (l .i) (l .inv) (omega (arith, known (l .i))) (omega arith) (c .before .before .before .before .before .before .if1 .left) (l .i + 1) refl in
+    let g2 = judge-next text numbers (l .i + 1) g1 (omega (arith, known (l .i + 1))) (omega arith) (c .before .before .before .if2 .left) (l .i + 2) (omega arith) in
+    judge-stops text numbers (l .i + 2) g2 (omega (arith, known (l .i + 2))) (omega arith) (c .if3 .taken)
 
 add-if4 : tie.Need-add-if4 Inv-loop μ-loop Inv-loop2 μ-loop2
 add-if4 c = omega arith
@@ -116,10 +116,10 @@ returns-4 c =
     let text = a .args .text .now in
     let numbers = a .args .numbers .now in
     let known = c .before .before .shared-slice-known4 .given in
-    let g1 = judge-next text (l .i) (l .inv) numbers (a .pre .0) (omega (arith, known (l .i))) (omega arith) (c .before .before .before .before .before .before .before .before .before .if1 .left) (l .i + 1) refl in
-    let g2 = judge-next text (l .i + 1) g1 numbers (a .pre .0) (omega (arith, known (l .i + 1))) (omega arith) (c .before .before .before .before .before .before .if2 .left) (l .i + 2) (omega arith) in
-    let g3 = judge-next text (l .i + 2) g2 numbers (a .pre .0) (omega (arith, known (l .i + 2))) (omega arith) (c .before .before .before .if3 .left) (l .i + 3) (omega arith) in
-    judge-stops text (l .i + 3) g3 numbers (a .pre .0) (omega (arith, known (l .i + 3))) (omega arith) (c .if4 .taken)
+    let g1 = judge-next text numbers (l .i) (l .inv) (omega (arith, known (l .i))) (omega arith) (c .before .before .before .before .before .before .before .before .before .if1 .left) (l .i + 1) refl in
+    let g2 = judge-next text numbers (l .i + 1) g1 (omega (arith, known (l .i + 1))) (omega arith) (c .before .before .before .before .before .before .if2 .left) (l .i + 2) (omega arith) in
+    let g3 = judge-next text numbers (l .i + 2) g2 (omega (arith, known (l .i + 2))) (omega arith) (c .before .before .before .if3 .left) (l .i + 3) (omega arith) in
+    judge-stops text numbers (l .i + 3) g3 (omega (arith, known (l .i + 3))) (omega arith) (c .if4 .taken)
 
 add-i : tie.Need-add-i Inv-loop μ-loop Inv-loop2 μ-loop2
 add-i c = omega arith
@@ -134,10 +134,10 @@ loop-again c =
     let text = a .args .text .now in
     let numbers = a .args .numbers .now in
     let known = c .before .before .shared-slice-known4 .given in
-    let g1 = judge-next text (l .i) (l .inv) numbers (a .pre .0) (omega (arith, known (l .i))) (omega arith) (c .before .before .before .before .before .before .before .before .before .if1 .left) (l .i + 1) refl in
-    let g2 = judge-next text (l .i + 1) g1 numbers (a .pre .0) (omega (arith, known (l .i + 1))) (omega arith) (c .before .before .before .before .before .before .if2 .left) (l .i + 2) (omega arith) in
-    let g3 = judge-next text (l .i + 2) g2 numbers (a .pre .0) (omega (arith, known (l .i + 2))) (omega arith) (c .before .before .before .if3 .left) (l .i + 3) (omega arith) in
-    judge-next text (l .i + 3) g3 numbers (a .pre .0) (omega (arith, known (l .i + 3))) (omega arith) (c .if4 .left) (l .i + 4) (omega arith)
+    let g1 = judge-next text numbers (l .i) (l .inv) (omega (arith, known (l .i))) (omega arith) (c .before .before .before .before .before .before .before .before .before .if1 .left) (l .i + 1) refl in
+    let g2 = judge-next text numbers (l .i + 1) g1 (omega (arith, known (l .i + 1))) (omega arith) (c .before .before .before .before .before .before .if2 .left) (l .i + 2) (omega arith) in
+    let g3 = judge-next text numbers (l .i + 2) g2 (omega (arith, known (l .i + 2))) (omega arith) (c .before .before .before .if3 .left) (l .i + 3) (omega arith) in
+    judge-next text numbers (l .i + 3) g3 (omega (arith, known (l .i + 3))) (omega arith) (c .if4 .left) (l .i + 4) (omega arith)
 
 loop2-holds : tie.Need-loop2-holds Inv-loop μ-loop Inv-loop2 μ-loop2
 loop2-holds c = c .before .loop .inv
@@ -156,7 +156,7 @@ returns-5 c =
     let a = c .before .before .before .before .before .before .before in
     let l = c .before .before .before .before .loop2 in
     let known = c .before .before .shared-slice-known5 .given in
-    judge-stops (a .args .text .now) (l .i) (l .inv) (a .args .numbers .now) (a .pre .0) (omega (arith, known (l .i))) (c .before .before .before .loop2-test .taken) (c .if5 .taken)
+    judge-stops (a .args .text .now) (a .args .numbers .now) (l .i) (l .inv) (omega (arith, known (l .i))) (c .before .before .before .loop2-test .taken) (c .if5 .taken)
 
 add-i-2 : tie.Need-add-i-2 Inv-loop μ-loop Inv-loop2 μ-loop2
 add-i-2 c = omega arith
@@ -169,10 +169,12 @@ loop2-again c =
     let a = c .before .before .before .before .before .before .before in
     let l = c .before .before .before .before .loop2 in
     let known = c .before .before .shared-slice-known5 .given in
-    judge-next (a .args .text .now) (l .i) (l .inv) (a .args .numbers .now) (a .pre .0) (omega (arith, known (l .i))) (c .before .before .before .loop2-test .taken) (c .if5 .left) (l .i + 1) refl
+    judge-next (a .args .text .now) (a .args .numbers .now) (l .i) (l .inv) (omega (arith, known (l .i))) (c .before .before .before .loop2-test .taken) (c .if5 .left) (l .i + 1) refl
 
 returns-6 : tie.Need-returns-6 Inv-loop μ-loop Inv-loop2 μ-loop2
-returns-6 c = judge-ends (c .before .before .before .before .args .text .now) (c .before .loop2 .i) (c .before .loop2 .inv) (c .loop2-test .left)
+returns-6 c =
+    let a = c .before .before .before .before in
+    judge-ends (a .args .text .now) (a .args .numbers .now) (c .before .loop2 .i) (c .before .loop2 .inv) (c .loop2-test .left)
 
 pub first-without-spec : {M : Type 1} → statement M
 first-without-spec =

@@ -17,7 +17,7 @@ use Rattle.signals.specs.declared.Row.{Row}
 use Rattle.signals.specs.Meaning.{letters, figures}
 use Rattle.signals.specs.Rows.{rowOf}
 use Rattle.text.specs.Encoding.{characterOf, hasSignal, shift, signalsFor, caseAfter}
-use Rattle.encoding.specs.Holder.{holderOf, HasRow}
+use Rattle.characters.specs.Holder.{holderOf, HasRow}
 
 -- what a byte gives in a case: its signals, and the case after them
 abbrev Turned : Type 0

@@ -2,10 +2,10 @@
 -- signal's row.
 -- Assumes nothing.
 use mathlib.Core.Path.{_≡_}
-use mathlib.Core.Bool.{_||_}
+use mathlib.Core.Bool.{Bool, _||_}
 use mathlib.Core.List.{List, [], _∷_}
 use Prim.Native.Nat.{ℕ, suc, _-_, _<_}
-use lib.Dec.{eqb}
+use lib.Dec.{eqb, ltb}
 use lib.ListN.{getD}
 use Rattle.laws.specs.Choice.{if_then_else_}
 use Rattle.signals.specs.declared.Row.{Row}
@@ -26,6 +26,10 @@ holderOf x = holderIn signals 1 x
 -- the table of characters, in the code's form: at each byte the number of the signal that has it
 abbrev pub Numbers : List ℕ → Type 0
 Numbers l = (x : ℕ) → x < 256 → getD l x 0 ≡ holderOf x
+
+-- a table gives the byte x a number
+abbrev pub numbered : List ℕ → ℕ → Bool
+numbered l x = ltb 0 (getD l x 0)
 
 -- a signal has the byte x, and r is its row
 pub record HasRow (x : ℕ) (r : Row) : Type 0 where
