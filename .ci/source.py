@@ -6,6 +6,7 @@ module with parameters (`module _ (..) where`) is one, and its statement begins 
 import glob
 import os
 import re
+import textwrap
 
 HEADS = re.compile(r"(?:(?:abbrev|unfoldable|opaque|pub)\s+)*")
 OTHERS = ("use ", "pub use ", "pub mod ", "mod ", "infix", "unfolding ", "open ")
@@ -41,7 +42,7 @@ def chunks(text):
     """The parts of a file that begin in its first column, each with the indented lines behind it."""
     part = []
     for line in text.split("\n"):
-        if line[:1].strip() and part:
+        if line[:1].strip() and line[0] not in ")}]" and part:
             yield "\n".join(part)
             part = []
         if line.strip():
@@ -50,9 +51,14 @@ def chunks(text):
         yield "\n".join(part)
 
 
+unread = []     # what the reading below does not know: (file, text); .ci/docs fails where there is any
+
+
 def antt_items(path, text=None, head=""):
     """The items of a file of definitions or proofs, fields and constructors with them, in order."""
     items, last = [], None
+    if text is None and "{-" in read(path):
+        unread.append((path, "a block comment"))
     for part in chunks(without_comments(read(path), "--") if text is None else text):
         if part.startswith(OTHERS):
             if part.startswith("unfolding ") and last is not None:
@@ -61,9 +67,10 @@ def antt_items(path, text=None, head=""):
         body = part[HEADS.match(part).end():]
         public = "pub " in part[:len(part) - len(body)]
         if body.startswith("module "):
-            line, _, inner = part.partition("\n")
-            inner = "\n".join(x[2:] for x in inner.split("\n"))
-            items += antt_items(path, inner, line + "\n")
+            # an inner module's statements stand under all the lines above them
+            line, _, inner = part.partition(" where\n")
+            line += " where"
+            items += antt_items(path, textwrap.dedent(inner), head + line + "\n")
             last = None
             continue
         told = re.match(r"(record|data)\s+(\S+)", body)
@@ -75,15 +82,18 @@ def antt_items(path, text=None, head=""):
                 if of:
                     items += [Item(n, path, "part", plain(line), public) for n in of.group(1).split()]
             continue
-        told = re.match(r"([^\s(){}=]+(?:\s+[^\s(){}=:]+)*)(?:\s+\{\S+\})?\s+:\s", body + " ")
-        if told:
+        told = re.match(r"([^\s(){}]+(?:\s+[^\s(){}:]+)*)(?:\s+\{[^}]*\})?\s+:\s", body + " ")
+        if told and "=" not in told.group(1).split():
             for name in told.group(1).split():
                 stated = head + "\n".join("  " + x for x in part.split("\n")) if head else part
                 defines = "/specs/" in path or re.match(r"(?:pub )?(?:abbrev|unfoldable)\b", part) or part.rstrip().endswith("Type 0")
                 last = Item(name, path, "definition" if defines else "law", stated, public)
                 items.append(last)
             continue
-        if last is not None:
+        # a clause of what was stated last; of a name with places for its arguments any clause
+        if last is None or not (body.split()[0] == last.name or "_" in last.name):
+            unread.append((path, part.split("\n")[0]))
+        else:
             last.clauses += "\n" + part
     return items
 
@@ -115,7 +125,10 @@ def clauses(head, word):
 def functions_of(path):
     crate = path.split("/")[1]
     owner, found = None, []
-    lines = without_comments(read(path), "//").split("\n")
+    text = without_comments(read(path), "//")
+    lines = text.split("\n")
+    if "/*" in text:
+        unread.append((path, "a block comment"))
     i = 0
     while i < len(lines):
         line = lines[i]
@@ -140,7 +153,15 @@ def functions_of(path):
             found.append(made)
             i = end
         i += 1
+    if len(re.findall(r"\bfn\b", text)) != len(found):
+        unread.append((path, "a function that is not laid out as rt fmt does"))
     return found
+
+
+def imports(path):
+    """What a file brings in from elsewhere, and how its operators bind."""
+    text = without_comments(read(path), "--" if path.endswith(".antt") else "//")
+    return plain(" ".join(re.findall(r"^\s*(?:(?:pub|ghost)\s+)*(?:use|open|infix\w*)\s[^\n]*(?:\n\s+[^\n]*\})?", text, re.M)))
 
 
 def crates_listed():

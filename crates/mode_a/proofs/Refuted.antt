@@ -10,8 +10,7 @@
 --     no-own-number-at-turning   Turning that asks for the number that its last block had
 --     no-order-3-4               a bad offer told before a bad station
 --     no-offer-unjudged          a text offer that is judged only where it would be taken
--- Wrong fresh stations and first bursts, each by one field or word that is not as 01 has it, whatever the others are. The code of these
--- calls is proved with no file, and a refused edit of it would tell no fact: so they are theorems.
+-- Wrong fresh stations and first bursts, each by one field or word that is not as 01 has it, whatever the others are.
 --     no-fresh-master-asking     a fresh master at Asking
 --     no-fresh-master-slave      a fresh master that is a slave
 --     no-fresh-slave-awaiting-2  a fresh slave that awaits 2

@@ -93,3 +93,7 @@ heard r w = receiverAfter r (receiving r w)
 
 pub four-heard : heard (heard (heard (heard freshReceiver alpha) rq) alpha) rq ≡ hearing (locked Phasing.Two)
 four-heard = refl
+
+-- and three are not enough
+pub three-heard : heard (heard (heard freshReceiver alpha) rq) alpha ≡ hearing (Searching 3 Phasing.One)
+three-heard = refl

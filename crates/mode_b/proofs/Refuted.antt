@@ -4,7 +4,7 @@
 --     no-order-7-6-3         one that tells a slot past the last before a word that may not stand in the text
 --     no-printing-at-once    a receiver that prints from the first settled signal, and not from the first return or line feed
 --     no-last-lost           one that ends at two α in DX and prints nothing of the position before them
--- Wrong fresh receivers. The code of that call is proved with no file, and a refused edit of it would tell no fact: so they are theorems.
+-- Wrong fresh receivers.
 --     no-fresh-receiver-with-a-run   one whose search run is not 0, whichever its last signal is
 --     no-fresh-receiver-after-rq     one whose last signal is RQ
 --     no-fresh-receiver-in-phase     one that is in phase, whatever words it waits with
