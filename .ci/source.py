@@ -140,13 +140,13 @@ def functions_of(path):
         told = re.match(r"(\s*)(?:#\[\w+\] )?(pub )?(?:extern \"C\" )?fn (\w+)", line)
         if told:
             head, begin = [], i
-            while not (lines[i].rstrip().endswith("{") and (lines[i].strip() == "{" or not re.search(r"\b(requires|ensures)\b", lines[i]))):
+            while i < len(lines) - 1 and not (lines[i].rstrip().endswith("{") and (lines[i].strip() == "{" or not re.search(r"\b(requires|ensures)\b", lines[i]))):
                 head.append(lines[i])
                 i += 1
             if lines[i].strip() != "{":
                 head.append(lines[i].rstrip()[:-1])
             end = i + 1
-            while lines[end].rstrip() != told.group(1) + "}":
+            while end < len(lines) and lines[end].rstrip() != told.group(1) + "}":
                 end += 1
             made = Function(told.group(3), owner, crate, path, bool(told.group(2)), "\n".join(head), "\n".join(lines[i + 1:end]))
             made.lines = (begin, end)
