@@ -182,6 +182,10 @@ class Tree:
         self.items = []
         for path in sorted(glob.glob("crates/**/*.antt", recursive=True)):
             self.items += antt_items(path)
+        self.by_name = {}
+        for x in self.items:
+            if x.kind != "part":
+                self.by_name.setdefault(x.name, []).append(x)
         self.functions = []
         self.type_heads = {}
         self.types, self.type_texts, self.consts, self.const_lines, self.parts = {}, [], {}, {}, set()
@@ -202,4 +206,4 @@ class Tree:
 
     def top(self, name):
         """The top-level items of a name, but for fields and constructors."""
-        return [x for x in self.items if x.name == name and x.kind != "part"]
+        return self.by_name.get(name, [])
