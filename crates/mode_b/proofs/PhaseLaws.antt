@@ -6,7 +6,8 @@
 --     rq-prints-nothing     with any other RX they print nothing either, as long as printing has not begun
 --     no-settled-phasing    "count as" is said of what is printed: with E in RX such a position settles as an error
 --     no-mark-unprinted     once printing has begun, such an error is printed
---     four-heard            a fresh receiver comes into phase by four signals
+--     four-heard            a fresh receiver comes into phase by four signals,
+--     three-heard           and not by three
 -- Assumes nothing.
 use mathlib.Core.Path.{_≡_, refl, ap, sym, _∙_}
 use mathlib.Core.Bool.{Bool, true, false, not, _&&_, false≢true}
@@ -94,6 +95,5 @@ heard r w = receiverAfter r (receiving r w)
 pub four-heard : heard (heard (heard (heard freshReceiver alpha) rq) alpha) rq ≡ hearing (locked Phasing.Two)
 four-heard = refl
 
--- and three are not enough
 pub three-heard : heard (heard (heard freshReceiver alpha) rq) alpha ≡ hearing (Searching 3 Phasing.One)
 three-heard = refl
