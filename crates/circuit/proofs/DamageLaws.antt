@@ -3,7 +3,7 @@
 --     first-heard                a first word that says something is the first word that was sent
 -- Assumes nothing.
 use mathlib.Core.Path.{_≡_, refl, ap, sym, subst, _∙_}
-use mathlib.Core.Bool.{Bool, true, false, _&&_, _||_}
+use mathlib.Core.Bool.{Bool, true, false, _&&_, _||_, true≢false, and-eq-true-iff}
 use Prim.Native.Nat.{ℕ, suc}
 use native.Mathlib.Omega.{arith}
 use lib.Dec.{eqb, leb}
@@ -16,28 +16,17 @@ use Rattle.mode_a.proofs.HeardLaws.{first-else}
 use Rattle.signals.specs.Damage.{Damage, kept, hurt, arrives, NoSignal}
 use Rattle.circuit.specs.Circuit.{Event, heard, Harmless}
 
-pub never : {A : Type 0} → true ≡ false → A
-never e = let z : _≡_ {A = ℕ} 0 1 = cc in absurd (omega arith)
-
-pub and-left : (a b : Bool) → a && b ≡ true → a ≡ true
-and-left true b e = refl
-and-left false b e = e
-
-pub and-right : (a b : Bool) → a && b ≡ true → b ≡ true
-and-right true b e = e
-and-right false b e = never (sym e)
+pub all-three : (a b c : Bool) → a && (b && c) ≡ true → (a ≡ true) × (b ≡ true) × (c ≡ true)
+all-three a b c e =
+    let x = and-eq-true-iff a (b && c) .0 e in
+    let y = and-eq-true-iff b c .0 (x .1) in
+    (x .0, y .0, y .1)
 
 pub words-are : (b w : Words) → isWords b w ≡ true → (b .0 ≡ w .0) × (b .1 ≡ w .1) × (b .2 ≡ w .2)
 unfolding isWords
 words-are b w e =
-    let r = and-right (eqb (b .0) (w .0)) (eqb (b .1) (w .1) && eqb (b .2) (w .2)) e in (
-      eqb-true (b .0) (w .0) (and-left (eqb (b .0) (w .0)) (eqb (b .1) (w .1) && eqb (b .2) (w .2)) e),
-      eqb-true (b .1) (w .1) (and-left (eqb (b .1) (w .1)) (eqb (b .2) (w .2)) r),
-      eqb-true (b .2) (w .2) (and-right (eqb (b .1) (w .1)) (eqb (b .2) (w .2)) r),
-    )
-
-pub same-words : (b w : Words) → isWords b w ≡ true → b ≡ w
-same-words b w e = let a = words-are b w e in λ i. record { 0 = a .0 i; 1 = a .1 i; 2 = a .2 i }
+    let x = all-three (eqb (b .0) (w .0)) (eqb (b .1) (w .1)) (eqb (b .2) (w .2)) e in
+    (eqb-true (b .0) (w .0) (x .0), eqb-true (b .1) (w .1) (x .1), eqb-true (b .2) (w .2) (x .2))
 
 -- a word heard: as it was sent, or none of the 35
 pub data Word (w b : ℕ) : Type 0 where
@@ -72,7 +61,7 @@ may-hold-signal b e z = go (eqb b beta) refl (subst (λ (n : ℕ). ((leb 1 n && 
   where
     go : (t : Bool) → eqb b beta ≡ t → eqb b beta ≡ true → ⊥
     go true p q = unfold meaningOf in let x : _≡_ {A = ℕ} 34 0 = sym (ap meaningOf (eqb-true b beta q)) ∙ z in omega arith
-    go false p q = never (sym q ∙ p)
+    go false p q = absurd (true≢false (sym q ∙ p))
 
 held-as-sent : (w b : ℕ) → Word w b → mayHold b ≡ true → b ≡ w
 held-as-sent w b (as-sent e) h = e
@@ -85,10 +74,10 @@ signal-as-sent w b v (no-signal z) h n = absurd (n (sym (ap meaningOf h) ∙ z))
 pub whole-block : (w b : Words) → Mangled w b → isBlock b ≡ true → b ≡ w
 unfolding isBlock
 whole-block w b m e =
-    let r = and-right (mayHold (b .0)) (mayHold (b .1) && mayHold (b .2)) e in
-    let x = held-as-sent (w .0) (b .0) (m .word0) (and-left (mayHold (b .0)) (mayHold (b .1) && mayHold (b .2)) e) in
-    let y = held-as-sent (w .1) (b .1) (m .word1) (and-left (mayHold (b .1)) (mayHold (b .2)) r) in
-    let z = held-as-sent (w .2) (b .2) (m .word2) (and-right (mayHold (b .1)) (mayHold (b .2)) r) in
+    let r = all-three (mayHold (b .0)) (mayHold (b .1)) (mayHold (b .2)) e in
+    let x = held-as-sent (w .0) (b .0) (m .word0) (r .0) in
+    let y = held-as-sent (w .1) (b .1) (m .word1) (r .1) in
+    let z = held-as-sent (w .2) (b .2) (m .word2) (r .2) in
     λ i. record { 0 = x i; 1 = y i; 2 = z i }
 
 -- three signals
@@ -108,14 +97,14 @@ pub no-block : (w b : Words) → Mangled w b → isBlock w ≡ false → isBlock
 no-block w b m f = go (isBlock b) refl
   where
     go : (t : Bool) → isBlock b ≡ t → t ≡ false
-    go true e = never (sym e ∙ ap isBlock (whole-block w b m e) ∙ f)
+    go true e = absurd (true≢false (sym e ∙ ap isBlock (whole-block w b m e) ∙ f))
     go false e = refl
 
 pub no-words : (w b v : Words) → Mangled w b → Signals v → isWords w v ≡ false → isWords b v ≡ false
 no-words w b v m s f = go (isWords b v) refl
   where
     go : (t : Bool) → isWords b v ≡ t → t ≡ false
-    go true e = never (sym e ∙ ap (λ (x : Words). isWords x v) (whole-words w b v m s e) ∙ f)
+    go true e = absurd (true≢false (sym e ∙ ap (λ (x : Words). isWords x v) (whole-words w b v m s e) ∙ f))
     go false e = refl
 
 -- the first word, as it was sent or none that says something

@@ -5,14 +5,12 @@
 -- confirms nothing, and its silence confirms nothing.
 -- Assumes nothing.
 use mathlib.Core.Path.{_≡_, refl, ap, sym, subst, _∙_}
-use mathlib.Core.Bool.{Bool, true, false}
+use mathlib.Core.Bool.{true, false, true≢false}
 use mathlib.Core.Logic.{_⊎_, inl, inr}
 use mathlib.Core.List.{List, [], _∷_, _++_, append-nil}
 use Prim.Native.Nat.{ℕ, _+_, _<_}
 use native.Mathlib.Omega.{arith}
-use lib.Dec.{leb}
 use lib.ListN.{length, length-append}
-use Rattle.laws.specs.Choice.{if_then_else_}
 use Rattle.signals.specs.Meaning.{meaningOf, trafficOf}
 use Rattle.signals.specs.Numbers.{Answer, answered, refused}
 use Rattle.mode_a.specs.declared.Number.{Number}
@@ -20,21 +18,24 @@ use Rattle.mode_a.specs.declared.Number.the-variants.{One, Two}
 use Rattle.mode_a.specs.declared.Words.{Words}
 use Rattle.mode_a.specs.declared.Held.{Held}
 use Rattle.mode_a.specs.declared.Place.{Place}
-use Rattle.mode_a.specs.declared.Place.the-variants.{Sending, Turning, Opening, Ending, Receiving, Asking, StandBy, Lost}
+use Rattle.mode_a.specs.declared.Place.the-variants.{Sending, Receiving, Asking, Lost}
 use Rattle.mode_a.specs.declared.Offer.{Offer}
 use Rattle.mode_a.specs.declared.Station.{Station}
 use Rattle.mode_a.specs.declared.Reply.{Reply}
 use Rattle.mode_a.specs.Station.{silence, RQ×3, other}
 use Rattle.mode_a.specs.Heard.{First, Cs, Cs3, Else, firstOf, mayHold, isBlock, heardOf}
-use Rattle.mode_a.specs.Step.{movedTo, sends, repeats, done}
+use Rattle.mode_a.specs.Step.{repeats, done}
 use Rattle.signals.specs.Damage.{arrives}
-use Rattle.circuit.specs.Circuit.{Event, heard, Harmless, Whole, Circuit, said, confirmedAt, confirmedOf, confirmedBy, acceptedBy, answeredBy, goesOn, isAnswered, next}
+use Rattle.runs.specs.Places.{Inner, with-block, with-total, neither, innerOf, ofHeld, atSending}
+use Rattle.runs.specs.Runs.{isAnswered}
+use Rattle.runs.proofs.PlaceLaws.{places-apart}
+use Rattle.runs.proofs.StepLaws.{Answers, answers, by-repeat, lost-stays}
+use Rattle.circuit.specs.Circuit.{Event, heard, Harmless, Whole, Circuit, said, confirmedAt, confirmedOf, confirmedBy, acceptedBy, answeredBy, goesOn, next}
 use Rattle.circuit.specs.Demand.{Beginning, Exchanged, Confirms, TimedOutFirst, InTime, AwaitsAtRq}
-use Rattle.circuit.proofs.DamageLaws.{never}
 use Rattle.circuit.proofs.Link.{Owed, unheard, heard as accepted, held, Link, s1-block, s1-rqs, s1-own, s1-rqs′, s1-other, s2-rqs, s2-cs3, s3-any, s3-cs3, s4-rq, s4-rqs, s5-asks, s5-rq, e1-alphas, e1-any, e2-any, e2-any′, e3-silence, e3-any, e4-any, Told, At, here, gone, Says, aloud, no-more, Linked}
 use Rattle.circuit.proofs.StepLaws.{asks-first, same-self, same-other}
 use Rattle.circuit.proofs.TimeLaws.{in-time, Follows, took, turns, follows-in-time, goes-on}
-use Rattle.circuit.proofs.RunLaws.{Answers, answers, still-at, place-here, not-lost, linked-next}
+use Rattle.circuit.proofs.RunLaws.{still-at, place-here, linked-next}
 
 -- undamaged, it is heard as it was sent; and that is harmless
 heard-whole : (e : Event) (w : Words) → Whole e → heard e w ≡ w
@@ -46,24 +47,20 @@ whole-harmless e (p, q, r) = rw (p, q, r) (tt, tt, tt)
 -- an answered event is a step
 replied : (a : Answer Reply) → isAnswered a ≡ true → (r : Reply) × (a ≡ answered r)
 replied (answered r) e = (r, refl)
-replied (refused n v) e = never (sym e)
+replied (refused n v) e = absurd (true≢false (sym e))
 
 -- Lost is silent for good, and silence confirms nothing
-lost-stays : (s : Station) (b : Words) (o : Offer) (r : Reply) → Answers s b o r → s .place ≡ Lost →
+lost-silent : (s : Station) (b : Words) (o : Offer) (r : Reply) → Answers s b o r → s .place ≡ Lost →
     (r .station .place ≡ Lost) × (r .sent ≡ silence)
-unfolding done
-lost-stays s b o r a e =
-    (ap (λ (r : Reply). r .station .place) (a .is-done) ∙ rw e, ap (λ (r : Reply). r .sent) (a .is-done) ∙ rw e)
+lost-silent s b o r a e = rw (lost-stays s b o r a e) (refl, refl)
 
 by-nothing : (p : Place) → confirmedOf p Else ≡ []
-by-nothing (Sending h) = refl
-by-nothing (Turning n) = refl
-by-nothing Opening = refl
-by-nothing (Ending e) = refl
-by-nothing (Receiving n) = refl
-by-nothing Asking = refl
-by-nothing StandBy = refl
-by-nothing Lost = refl
+by-nothing p = go (innerOf p)
+  where
+    go : (x : Inner) → ofHeld (λ h. confirmedAt h Else) [] x ≡ []
+    go (with-block h) = refl
+    go (with-total e) = refl
+    go neither = refl
 
 by-silence : (s : Station) (e : Event) (w : Words) → Whole e → w ≡ silence → confirmedBy s (heard e w) ≡ []
 unfolding firstOf
@@ -72,14 +69,8 @@ by-silence s e w v i = ap (confirmedBy s) (heard-whole e w v ∙ i) ∙ by-nothi
 -- to repeat is to be Lost, or to stay and to say it
 repeated : (s : Station) (v : Words) (r : Reply) → r ≡ repeats s v →
     (r .station .place ≡ Lost) ⊎ ((r .station .place ≡ s .place) × (r .sent ≡ v))
-repeated s v r e = rw e (go (leb 31 (s .count)))
-  where
-    by : Bool → Reply
-    by t = if t then sends (movedTo s Lost) silence else sends (record { role = s .role; place = s .place; count = s .count + 1; case = s .case; plus = s .plus }) v
-
-    go : (t : Bool) → (by t .station .place ≡ Lost) ⊎ ((by t .station .place ≡ s .place) × (by t .sent ≡ v))
-    go true = inl refl
-    go false = inr (refl, refl)
+repeated s v r e =
+    rw e (by-repeat (λ (r : Reply). (r .station .place ≡ Lost) ⊎ ((r .station .place ≡ s .place) × (r .sent ≡ v))) s v (λ t. inl refl) (λ t. inr (refl, refl)))
 
 -- what a station at Sending hears whole, from where, and what is then owed
 data Hears (h : Held) : Place → First → Owed → Type 0 where
@@ -88,14 +79,7 @@ data Hears (h : Held) : Place → First → Owed → Type 0 where
   third : Hears h Asking Cs3 (accepted (h .block))
 
 abbrev HearsAt : Place → Place → First → Owed → Type 0
-HearsAt (Sending h) p f o = Hears h p f o
-HearsAt (Turning n) p f o = Unit {0}
-HearsAt Opening p f o = Unit {0}
-HearsAt (Ending e) p f o = Unit {0}
-HearsAt (Receiving n) p f o = Unit {0}
-HearsAt Asking p f o = Unit {0}
-HearsAt StandBy p f o = Unit {0}
-HearsAt Lost p f o = Unit {0}
+HearsAt x p f o = atSending (λ h. Hears h p f o) (Unit {0}) x
 
 hears-at : {x p : Place} {w : Words} {ox op : Owed} → Link x p w ox op → HearsAt x p (firstOf (w .0)) ox
 unfolding firstOf
@@ -127,21 +111,11 @@ data Sent (h : Held) : Place → Words → Owed → Type 0 where
   sent-again : {x : Place} {w : Words} → (x ≡ Receiving (h .number) → ⊥) → Sent h x w (accepted (h .block))
 
 abbrev SentAt : Place → Place → Words → Owed → Type 0
-SentAt (Sending h) x w o = Sent h x w o
-SentAt (Turning n) x w o = Unit {0}
-SentAt Opening x w o = Unit {0}
-SentAt (Ending e) x w o = Unit {0}
-SentAt (Receiving n) x w o = Unit {0}
-SentAt Asking x w o = Unit {0}
-SentAt StandBy x w o = Unit {0}
-SentAt Lost x w o = Unit {0}
+SentAt p x w o = atSending (λ h. Sent h x w o) (Unit {0}) p
 
 other-awaited : (n : Number) → Receiving (other n) ≡ Receiving n → ⊥
 other-awaited One e = let z : _≡_ {A = ℕ} 0 1 = cc in omega arith
 other-awaited Two e = let z : _≡_ {A = ℕ} 0 1 = cc in omega arith
-
-asking-awaits : (n : Number) → Asking ≡ Receiving n → ⊥
-asking-awaits n e = let z : _≡_ {A = ℕ} 0 1 = cc in omega arith
 
 sent-at : {x p : Place} {w : Words} {ox op : Owed} → Link x p w ox op → SentAt p x w op
 sent-at (s1-block i) = block-sent i
@@ -149,7 +123,7 @@ sent-at (s1-rqs i) = rqs-sent
 sent-at (s1-own i) = tt
 sent-at (s1-rqs′ {n = n}) = sent-again (other-awaited n)
 sent-at s1-other = tt
-sent-at (s2-rqs {n = n}) = sent-again (asking-awaits n)
+sent-at (s2-rqs {n = n}) = sent-again (places-apart Asking (Receiving n) refl)
 sent-at s2-cs3 = tt
 sent-at s3-any = tt
 sent-at s3-cs3 = tt
@@ -216,7 +190,7 @@ module _
     where
       go : Says (c .sender) (l .sender-at) (c .burst) (l .would-say) → Back c h e r
       go (aloud q i) =
-          by i _ _ _ (subst (λ (x : Place). HearsAt x (l .sender-at) (firstOf (l .would-say .0)) (l .owed-hearer)) (place-here (c .hearer) (l .hears) at (not-lost h)) (hears-at (l .link))) q refl (l .told-hearer)
+          by i _ _ _ (subst (λ (x : Place). HearsAt x (l .sender-at) (firstOf (l .would-say .0)) (l .owed-hearer)) (place-here (c .hearer) (l .hears) at (places-apart (Sending h) Lost refl)) (hears-at (l .link))) q refl (l .told-hearer)
       go (no-more q i) = timed-out (inl q) (by-silence (c .hearer) e (c .burst) whole i)
 
 rqs-no-block : isBlock RQ×3 ≡ false
@@ -224,7 +198,7 @@ unfolding isBlock mayHold trafficOf meaningOf
 rqs-no-block = refl
 
 not-rqs : (b : Words) → isBlock b ≡ true → b ≡ RQ×3 → ⊥
-not-rqs b i e = never (sym i ∙ ap isBlock e ∙ rqs-no-block)
+not-rqs b i e = absurd (true≢false (sym i ∙ ap isBlock e ∙ rqs-no-block))
 
 -- The burst goes out from a station at Sending: then the other has accepted the block, unless it still awaits it and hears RQ RQ RQ.
 module _
@@ -236,9 +210,10 @@ module _
 
   hearer-here : At (c .hearer) (l .hearer-at) → c .hearer .place ≡ l .hearer-at
   hearer-here (here q) = q
-  hearer-here (gone q) = absurd (stays (lost-stays (c .hearer) (heard e (c .burst)) (e .offer) r (answers (c .hearer) (heard e (c .burst)) (e .offer) r is) q .0))
+  hearer-here (gone q) = absurd (stays (lost-silent (c .hearer) (heard e (c .burst)) (e .offer) r (answers (c .hearer) (heard e (c .burst)) (e .offer) r is) q .0))
 
   out : (x : Place) (w : Words) (o : Owed) → Sent h x w o → l .hearer-at ≡ x → c .burst ≡ w → Told o (c .from-sender) → Ahead
+  unfolding heardOf
   out x w o (block-sent i) p q u =
       let a : acceptedBy (c .hearer) (heard e (c .burst)) ≡ h .block ∷ [] = rw (hearer-here (l .hears) ∙ p, heard-whole e (c .burst) whole ∙ q, i) in
       omega (arith, ap length (u .accepted-is), length-append (c .from-sender .confirmed) [], ap length a, length-append (c .from-sender .accepted) (acceptedBy (c .hearer) (heard e (c .burst))))
@@ -248,7 +223,7 @@ module _
 
   goes-out : Ahead
   goes-out =
-      out (l .hearer-at) (l .would-say) (l .owed-sender) (subst (λ (q : Place). SentAt q (l .hearer-at) (l .would-say) (l .owed-sender)) (place-here (c .sender) (still-at (c .sender) (l .says)) at (not-lost h)) (sent-at (l .link))) refl (burst-is c (l .says) (λ z. not-lost h (sym at ∙ z))) (l .told-sender)
+      out (l .hearer-at) (l .would-say) (l .owed-sender) (subst (λ (q : Place). SentAt q (l .hearer-at) (l .would-say) (l .owed-sender)) (place-here (c .sender) (still-at (c .sender) (l .says)) at (places-apart (Sending h) Lost refl)) (sent-at (l .link))) refl (burst-is c (l .says) (λ z. places-apart (Sending h) Lost refl (sym at ∙ z))) (l .told-sender)
 
 -- That one has heard no block, and has accepted none.
 module _
@@ -258,6 +233,7 @@ module _
   Level = c .from-sender .accepted ++ acceptedBy (c .hearer) (heard e (c .burst)) ≡ c .from-sender .confirmed
 
   out-level : (x : Place) (w : Words) (o : Owed) → Sent h x w o → l .hearer-at ≡ x → c .burst ≡ w → Told o (c .from-sender) → Level
+  unfolding heardOf
   out-level x w o (block-sent i) p q u = absurd (not-rqs (h .block) i (sym q ∙ rqs))
   out-level x w o rqs-sent p q u =
       let a : acceptedBy (c .hearer) (heard e (c .burst)) ≡ [] = rw (awaits, heard-whole e (c .burst) whole ∙ rqs, rqs-no-block) in
@@ -267,7 +243,7 @@ module _
 
   goes-out-level : Level
   goes-out-level =
-      out-level (l .hearer-at) (l .would-say) (l .owed-sender) (subst (λ (q : Place). SentAt q (l .hearer-at) (l .would-say) (l .owed-sender)) (place-here (c .sender) (still-at (c .sender) (l .says)) at (not-lost h)) (sent-at (l .link))) refl (burst-is c (l .says) (λ z. not-lost h (sym at ∙ z))) (l .told-sender)
+      out-level (l .hearer-at) (l .would-say) (l .owed-sender) (subst (λ (q : Place). SentAt q (l .hearer-at) (l .would-say) (l .owed-sender)) (place-here (c .sender) (still-at (c .sender) (l .says)) at (places-apart (Sending h) Lost refl)) (sent-at (l .link))) refl (burst-is c (l .says) (λ z. places-apart (Sending h) Lost refl (sym at ∙ z))) (l .told-sender)
 
 -- one exchange, by its two replies
 abbrev step : Circuit → Event → Reply → Circuit
@@ -323,11 +299,11 @@ module _
   lost-by-then : (r₁ .station .place ≡ Lost) ⊎ (r₂ .station .place ≡ Lost) → confirmedBy (c .sender) (heard e₂ (r₁ .sent)) ≡ [] →
       TimedOutFirst c last
   lost-by-then (inl z) n =
-      let y = lost-stays (r₁ .station) (heard e₃ (r₂ .sent)) (e₃ .offer) r₃ (answers (r₁ .station) (heard e₃ (r₂ .sent)) (e₃ .offer) r₃ is₃) z in
+      let y = lost-silent (r₁ .station) (heard e₃ (r₂ .sent)) (e₃ .offer) r₃ (answers (r₁ .station) (heard e₃ (r₂ .sent)) (e₃ .offer) r₃ is₃) z in
       let m = by-silence (r₂ .station) e₄ (r₃ .sent) whole₄ (y .1) in
       record { lost = inl (y .0); unconfirmed = cc (append-nil (c .from-sender .confirmed)) }
   lost-by-then (inr z) n =
-      let y = lost-stays (r₂ .station) (heard e₄ (r₃ .sent)) (e₄ .offer) r₄ (answers (r₂ .station) (heard e₄ (r₃ .sent)) (e₄ .offer) r₄ is₄) z in
+      let y = lost-silent (r₂ .station) (heard e₄ (r₃ .sent)) (e₄ .offer) r₄ (answers (r₂ .station) (heard e₄ (r₃ .sent)) (e₄ .offer) r₄ is₄) z in
       let m : confirmedBy (r₂ .station) (heard e₄ (r₃ .sent)) ≡ [] = rw z in
       record { lost = inr (y .0); unconfirmed = cc (append-nil (c .from-sender .confirmed)) }
 

@@ -32,9 +32,11 @@ use Rattle.mode_a.specs.Over.{query, cross, listened}
 use Rattle.mode_a.specs.Rows.{rowOf, sending, opening, asking, receiving}
 use Rattle.mode_a.specs.Step.{isOver, trafficIn, done, sound, stepping}
 use Rattle.signals.specs.Damage.{kept, hurt}
-use Rattle.circuit.specs.Circuit.{Event, heard, Whole, Run, start, _▷_, Direction, Circuit, fresh, said, confirmedBy, answeredBy, goesOn, next, after, AllHarmless, isAnswered}
+use Rattle.runs.specs.Places.{isOpening, isAsking}
+use Rattle.runs.specs.Runs.{start, _▷_, isAnswered}
+use Rattle.runs.proofs.StepLaws.{answers}
+use Rattle.circuit.specs.Circuit.{Event, heard, Whole, Run, Direction, Circuit, fresh, said, confirmedBy, answeredBy, goesOn, next, after, AllHarmless}
 use Rattle.circuit.specs.Demand.{Carried, Kept, Exchanged, Confirms, TimedOutFirst, InTime, Demand3}
-use Rattle.circuit.proofs.RunLaws.{answers}
 use Rattle.circuit.proofs.TimeLaws.{in-time}
 use Rattle.circuit.proofs.Theorem.{demand3}
 use Rattle.circuit.proofs.Computed.{run-of, through, computed}
@@ -122,14 +124,7 @@ no-disguised-text claim =
 
 -- an over taken at Receiving counted as a block
 abbrev overAsBlock : Place → List Words
-overAsBlock (Sending h) = []
-overAsBlock (Turning n) = []
-overAsBlock Opening = []
-overAsBlock (Ending e) = []
-overAsBlock (Receiving n) = []
-overAsBlock Asking = words figures cross query ∷ []
-overAsBlock StandBy = []
-overAsBlock Lost = []
+overAsBlock p = if isAsking p then words figures cross query ∷ [] else []
 
 abbrev oversTaken : Answer Reply → List Words
 oversTaken (answered r) = if r .taken then overAsBlock (r .station .place) else []
@@ -304,14 +299,7 @@ beyond (b ∷ k) [] = []
 beyond (b ∷ k) (a ∷ l) = beyond k l
 
 abbrev unconfirmed : Place → Direction → List Words
-unconfirmed (Sending h) d = []
-unconfirmed (Turning n) d = []
-unconfirmed Opening d = beyond (d .confirmed) (d .taken)
-unconfirmed (Ending e) d = []
-unconfirmed (Receiving n) d = []
-unconfirmed Asking d = []
-unconfirmed StandBy d = []
-unconfirmed Lost d = []
+unconfirmed p d = if isOpening p then beyond (d .confirmed) (d .taken) else []
 
 abbrev offersAgain : List Words → Offer → Offer
 offersAgain [] o = o

@@ -6,63 +6,30 @@
 --     no-cs3-heard   no phase lets Opening hear CS3
 -- Assumes nothing.
 use mathlib.Core.Path.{_≡_, refl, ap, sym, subst, _∙_}
-use mathlib.Core.Bool.{Bool, true, false, not, _&&_}
+use mathlib.Core.Bool.{Bool, true, false, _&&_, true≢false}
 use mathlib.Core.List.{List, [], _∷_, _++_, append-nil, append-assoc}
-use Prim.Native.Nat.{ℕ, suc, _≤_}
+use Prim.Native.Nat.{ℕ, _≤_}
 use native.Mathlib.Omega.{arith}
-use lib.Dec.{ltb}
 use lib.ListN.{length, length-append}
-use Rattle.laws.specs.Choice.{if_then_else_}
-use Rattle.signals.specs.Numbers.{Answer, answered, refused, firstNot}
+use Rattle.signals.specs.Numbers.{Answer, answered, refused}
 use Rattle.mode_a.specs.declared.Words.{Words}
 use Rattle.mode_a.specs.declared.Held.{Held}
 use Rattle.mode_a.specs.declared.Place.{Place}
-use Rattle.mode_a.specs.declared.Place.the-variants.{Sending, Turning, Opening, Ending, Receiving, Asking, StandBy, Lost}
+use Rattle.mode_a.specs.declared.Place.the-variants.{Sending, Opening, Lost}
 use Rattle.mode_a.specs.declared.Offer.{Offer}
 use Rattle.mode_a.specs.declared.Station.{Station}
 use Rattle.mode_a.specs.declared.Reply.{Reply}
 use Rattle.mode_a.specs.Station.{listOf}
-use Rattle.mode_a.specs.Heard.{First, Cs, Cs3, Rq, Else, firstOf, mayHold, isBlock, heardOf}
-use Rattle.mode_a.specs.Rows.{rowOf}
-use Rattle.mode_a.specs.Step.{done, sound, offered, stepping}
-use Rattle.circuit.specs.Circuit.{Event, heard, Harmless, Run, start, _▷_, traffic, signalsIn, isSending, Direction, Circuit, fresh, said, confirmedBy, acceptedBy, answeredBy, goesOn, next, after, AllHarmless}
-use Rattle.circuit.specs.Demand.{InOrder, Carried, inHand, Kept}
-use Rattle.circuit.proofs.DamageLaws.{never, Mangled, mangled, mangled-silence, FirstIs, first-heard}
+use Rattle.mode_a.specs.Heard.{First, Cs, Cs3, Rq, Else, firstOf}
+use Rattle.runs.specs.Places.{isSending, isOpening}
+use Rattle.runs.specs.Runs.{start, _▷_}
+use Rattle.runs.proofs.PlaceLaws.{places-apart}
+use Rattle.runs.proofs.StepLaws.{answers}
+use Rattle.circuit.specs.Circuit.{Event, heard, Harmless, Run, traffic, signalsIn, Direction, Circuit, fresh, said, confirmedBy, acceptedBy, answeredBy, goesOn, next, after, AllHarmless}
+use Rattle.circuit.specs.Demand.{Carried, inHand, Kept}
+use Rattle.circuit.proofs.DamageLaws.{Mangled, mangled, mangled-silence, FirstIs, first-heard}
 use Rattle.circuit.proofs.Link.{Owed, none, unheard, heard as accepted, Link, s1-block, s1-rqs, s1-own, s1-rqs′, s1-other, s2-rqs, s2-cs3, s3-any, s3-cs3, s4-rq, s4-rqs, s5-asks, s5-rq, e1-alphas, e1-any, e2-any, e2-any′, e3-silence, e3-any, e4-any, Told, waiting, ahead, At, here, gone, Says, aloud, no-more, Linked, Moved, stays, takes-block, confirms, confirms-and-takes, Came, nothing-new, came, After}
-use Rattle.circuit.proofs.StepLaws.{asks-first, acts-at}
-
--- an answer is what the row did, and its offer was in order
-fine-text : (w : Words) → ltb (firstNot mayHold (listOf w)) 3 ≡ false → isBlock w ≡ true
-unfolding firstNot isBlock
-fine-text w = go (mayHold (w .0)) (mayHold (w .1)) (mayHold (w .2))
-  where
-    go : (a b c : Bool) → ltb (if a then suc (if b then suc (if c then suc 0 else 0) else 0) else 0) 3 ≡ false →
-        (a && (b && c)) ≡ true
-    go true true true e = refl
-    go true true false e = never e
-    go true false c e = never e
-    go false b c e = never e
-
-fine : (o : Offer) → ltb (firstNot mayHold (offered o)) (length (offered o)) ≡ false → InOrder o
-fine (Offer.Text w) e = fine-text w e
-fine Offer.Over e = tt
-fine Offer.End e = tt
-fine Offer.Nothing e = tt
-
-pub record Answers (s : Station) (b : Words) (o : Offer) (r : Reply) : Type 0 where
-  pub is-done : r ≡ done s b o (rowOf (s .role) (s .place) (heardOf b))
-  pub is-fine : InOrder o
-
-pub answers : (s : Station) (b : Words) (o : Offer) (r : Reply) → stepping s b o ≡ answered r → Answers s b o r
-unfolding stepping
-answers s b o r e = go (sound s) (ltb (firstNot mayHold (offered o)) (length (offered o))) refl e
-  where
-    go : (p q : Bool) → ltb (firstNot mayHold (offered o)) (length (offered o)) ≡ q →
-        _≡_ {A = Answer Reply} (if not p then refused 4 0 else if q then refused 3 (firstNot mayHold (offered o)) else answered (done s b o (rowOf (s .role) (s .place) (heardOf b)))) (answered r) →
-        Answers s b o r
-    go false q i e = let z : _≡_ {A = ℕ} 0 1 = cc in absurd (omega arith)
-    go true true i e = let z : _≡_ {A = ℕ} 0 1 = cc in absurd (omega arith)
-    go true false i e = record { is-done = cc; is-fine = fine o i }
+use Rattle.circuit.proofs.StepLaws.{idle, asks-first, acts-at}
 
 -- the lists of a direction
 signals-append : (l m : List Words) → signalsIn (l ++ m) ≡ signalsIn l ++ signalsIn m
@@ -222,26 +189,7 @@ owed-hearer e3-any = refl
 owed-hearer e4-any = refl
 
 owed-sender : {x p : Place} {w : Words} {ox op : Owed} → Link x p w ox op → waiting op ≡ inHand p
-owed-sender (s1-block i) = refl
-owed-sender (s1-rqs i) = refl
-owed-sender (s1-own i) = refl
-owed-sender s1-rqs′ = refl
-owed-sender s1-other = refl
-owed-sender s2-rqs = refl
-owed-sender s2-cs3 = refl
-owed-sender s3-any = refl
-owed-sender s3-cs3 = refl
-owed-sender (s4-rq r) = refl
-owed-sender s4-rqs = refl
-owed-sender s5-asks = refl
-owed-sender (s5-rq r) = refl
-owed-sender e1-alphas = refl
-owed-sender e1-any = refl
-owed-sender e2-any = refl
-owed-sender e2-any′ = refl
-owed-sender e3-silence = refl
-owed-sender e3-any = refl
-owed-sender e4-any = refl
+owed-sender l = owed-hearer (idle l .1)
 
 one-waits : (o : Owed) → length (waiting o) ≤ 1
 one-waits none = omega arith
@@ -297,26 +245,13 @@ pub place-here : {x q : Place} (s : Station) → At s x → s .place ≡ q → (
 place-here s (here e) p n = sym e ∙ p
 place-here s (gone e) p n = absurd (n (sym p ∙ e))
 
-pub not-lost : (h : Held) → Sending h ≡ Lost → ⊥
-not-lost h e = let z : _≡_ {A = ℕ} 0 1 = cc in omega arith
-
 pub never-both : (c : Circuit) → Linked c → (h g : Held) → c .hearer .place ≡ Sending h → c .sender .place ≡ Sending g → ⊥
 never-both c l h g p q =
-    let i = place-here (c .hearer) (l .hears) p (not-lost h) in
-    let j = place-here (c .sender) (still-at (c .sender) (l .says)) q (not-lost g) in
-    never (rw (i, j) at (not-both (l .link)))
+    let i = place-here (c .hearer) (l .hears) p (places-apart (Sending h) Lost refl) in
+    let j = place-here (c .sender) (still-at (c .sender) (l .says)) q (places-apart (Sending g) Lost refl) in
+    absurd (true≢false (rw (i, j) at (not-both (l .link))))
 
 -- what Opening hears
-abbrev isOpening : Place → Bool
-isOpening (Sending h) = false
-isOpening (Turning n) = false
-isOpening Opening = true
-isOpening (Ending e) = false
-isOpening (Receiving n) = false
-isOpening Asking = false
-isOpening StandBy = false
-isOpening Lost = false
-
 abbrev isCs3 : First → Bool
 isCs3 (Cs n) = false
 isCs3 Cs3 = true
@@ -350,13 +285,10 @@ kept-cs3 : (f g : First) → FirstIs f g → g ≡ Cs3 → isCs3 f ≡ true
 kept-cs3 f g FirstIs.said e = rw e
 kept-cs3 f g FirstIs.unsaid e = let z : _≡_ {A = ℕ} 0 1 = cc in absurd (omega arith)
 
-opening-not-lost : Opening ≡ Lost → ⊥
-opening-not-lost e = let z : _≡_ {A = ℕ} 0 1 = cc in omega arith
-
 pub no-cs3-heard : (c : Circuit) → Linked c → (e : Event) → Harmless e → c .hearer .place ≡ Opening →
     firstOf (heard e (c .burst) .0) ≡ Cs3 → ⊥
 no-cs3-heard c l e h p q =
-    let i = place-here (c .hearer) (l .hears) p opening-not-lost in
+    let i = place-here (c .hearer) (l .hears) p (places-apart Opening Lost refl) in
     let m = heard-mangled c e h (l .says) in
     let k = kept-cs3 (firstOf (l .would-say .0)) (firstOf (heard e (c .burst) .0)) (first-heard (l .would-say .0) (heard e (c .burst) .0) (m .word0)) q in
-    never (rw (i, k) at (no-cs3 (l .link)))
+    absurd (true≢false (rw (i, k) at (no-cs3 (l .link))))

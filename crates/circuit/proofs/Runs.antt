@@ -5,7 +5,7 @@
 --     confirmed-at-31                 both have repeated 31 times, and the confirmation still comes in time
 -- Assumes nothing.
 use mathlib.Core.Path.{_≡_, refl, sym, subst}
-use mathlib.Core.Bool.{Bool, true, _&&_}
+use mathlib.Core.Bool.{Bool, true, _&&_, and-eq-true-iff}
 use mathlib.Core.List.{List, [], _∷_, _++_}
 use Prim.Native.Nat.{ℕ, zero, suc}
 use lib.Dec.{eqb}
@@ -20,9 +20,10 @@ use Rattle.mode_a.specs.Heard.{firstOf, mayHold, isBlock, isWords, heardOf}
 use Rattle.mode_a.specs.Over.{query, cross, listened}
 use Rattle.mode_a.specs.Step.{trafficIn, done, sound, stepping}
 use Rattle.signals.specs.Damage.{Damage, kept, hurt, NoSignal}
-use Rattle.circuit.specs.Circuit.{Event, Harmless, Run, start, _▷_, traffic, signalsIn, Direction, Circuit, after, AllHarmless}
+use Rattle.runs.specs.Runs.{start, _▷_}
+use Rattle.circuit.specs.Circuit.{Event, Harmless, Run, traffic, signalsIn, Direction, Circuit, after, AllHarmless}
 use Rattle.circuit.specs.Demand.{Demand3}
-use Rattle.circuit.proofs.DamageLaws.{and-left, and-right}
+use Rattle.circuit.proofs.DamageLaws.{all-three}
 use Rattle.circuit.proofs.Computed.{run-of, through, computed}
 use Rattle.circuit.proofs.Theorem.{demand3}
 
@@ -59,11 +60,8 @@ isHarmlessEvent e = noSignal (e .first) && (noSignal (e .second) && noSignal (e 
 
 harmless-event : (e : Event) → isHarmlessEvent e ≡ true → Harmless e
 harmless-event e i =
-    let j = and-right (noSignal (e .first)) (noSignal (e .second) && noSignal (e .third)) i in (
-      no-signal-if (e .first) (and-left (noSignal (e .first)) (noSignal (e .second) && noSignal (e .third)) i),
-      no-signal-if (e .second) (and-left (noSignal (e .second)) (noSignal (e .third)) j),
-      no-signal-if (e .third) (and-right (noSignal (e .second)) (noSignal (e .third)) j),
-    )
+    let x = all-three (noSignal (e .first)) (noSignal (e .second)) (noSignal (e .third)) i in
+    (no-signal-if (e .first) (x .0), no-signal-if (e .second) (x .1), no-signal-if (e .third) (x .2))
 
 abbrev pub isHarmless : List Event → Bool
 isHarmless [] = true
@@ -73,7 +71,7 @@ pub harmless-if : (run : Run) (es : List Event) → AllHarmless run → isHarmle
 unfolding AllHarmless
 harmless-if run [] a i = a
 harmless-if run (e ∷ es) a i =
-    harmless-if (run ▷ e) es (a, harmless-event e (and-left (isHarmlessEvent e) (isHarmless es) i)) (and-right (isHarmlessEvent e) (isHarmless es) i)
+    let x = and-eq-true-iff (isHarmlessEvent e) (isHarmless es) .0 i in harmless-if (run ▷ e) es (a, harmless-event e (x .0)) (x .1)
 
 -- what a direction has carried, all of it printed and confirmed
 pub record CarriedAll (d : Direction) (blocks : List Words) (signals : List ℕ) : Type 0 where

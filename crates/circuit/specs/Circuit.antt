@@ -8,7 +8,7 @@
 -- the other, the signals it printed, and the blocks that the one counts as confirmed. No station keeps any of them.
 -- Assumes nothing.
 use mathlib.Core.Path.{_≡_}
-use mathlib.Core.Bool.{Bool, true, false, _&&_}
+use mathlib.Core.Bool.{_&&_}
 use mathlib.Core.List.{List, [], _∷_, _++_}
 use Prim.Native.Nat.{ℕ}
 use lib.Dec.{eqb}
@@ -19,14 +19,15 @@ use Rattle.signals.specs.Numbers.{Answer, answered, refused}
 use Rattle.mode_a.specs.declared.Words.{Words}
 use Rattle.mode_a.specs.declared.Held.{Held}
 use Rattle.mode_a.specs.declared.Place.{Place}
-use Rattle.mode_a.specs.declared.Place.the-variants.{Sending, Turning, Opening, Ending, Receiving, Asking, StandBy, Lost}
 use Rattle.mode_a.specs.declared.Offer.{Offer}
 use Rattle.mode_a.specs.declared.Station.{Station}
 use Rattle.mode_a.specs.declared.Reply.{Reply}
-use Rattle.mode_a.specs.Station.{words, listOf, same, freshMaster, freshSlave, firstBurst}
-use Rattle.mode_a.specs.Heard.{First, Cs, Cs3, Rq, Else, firstOf, isBlock}
+use Rattle.mode_a.specs.Station.{words, listOf, freshMaster, freshSlave, firstBurst}
+use Rattle.mode_a.specs.Heard.{First, firstOf, heardOf}
 use Rattle.mode_a.specs.Over.{cross, query}
 use Rattle.mode_a.specs.Step.{stepping}
+use Rattle.runs.specs.Places.{isSending, atSending}
+use Rattle.runs.specs.Runs.{RunOf, start, _▷_, confirming, accepting}
 
 pub record Event : Type 0 where
   pub first : Damage
@@ -45,11 +46,9 @@ Harmless e = NoSignal (e .first) × NoSignal (e .second) × NoSignal (e .third)
 abbrev pub Whole : Event → Type 0
 Whole e = (e .first ≡ kept) × (e .second ≡ kept) × (e .third ≡ kept)
 
--- a run: no event yet, or a run and the event after it
-infixl 60 _▷_
-pub data Run : Type 0 where
-  start : Run
-  _▷_ : Run → Event → Run
+-- a run of the two
+abbrev pub Run : Type 0
+Run = RunOf Event
 
 -- the traffic signals of some words, and of some blocks
 unfoldable pub traffic : List ℕ → List ℕ
@@ -78,32 +77,12 @@ blockOf Offer.Over = words figures cross query ∷ []
 blockOf Offer.End = []
 blockOf Offer.Nothing = words beta beta beta ∷ []
 
-abbrev pub isSending : Place → Bool
-isSending (Sending h) = true
-isSending (Turning n) = false
-isSending Opening = false
-isSending (Ending e) = false
-isSending (Receiving n) = false
-isSending Asking = false
-isSending StandBy = false
-isSending Lost = false
-
 abbrev pub takenBy : Offer → Reply → List Words
 takenBy o r = if r .taken && isSending (r .station .place) then blockOf o else []
 
 -- "Receiving .. Three intact words, each traffic or β: accepted"
-abbrev pub isReceiving : Place → Bool
-isReceiving (Sending h) = false
-isReceiving (Turning n) = false
-isReceiving Opening = false
-isReceiving (Ending e) = false
-isReceiving (Receiving n) = true
-isReceiving Asking = false
-isReceiving StandBy = false
-isReceiving Lost = false
-
 abbrev pub acceptedBy : Station → Words → List Words
-acceptedBy s b = if isReceiving (s .place) && isBlock b then b ∷ [] else []
+acceptedBy s b = if accepting (s .place) (heardOf b) then b ∷ [] else []
 
 -- "up to three printed signals": the words of the reply, without its zeros
 abbrev pub withoutZeros : List ℕ → List ℕ
@@ -115,20 +94,10 @@ printedBy r = withoutZeros (listOf (r .printed))
 
 -- "Of the other number: the block is confirmed", "CS3: confirmed"
 abbrev pub confirmedAt : Held → First → List Words
-confirmedAt h (Cs n) = if same n (h .number) then [] else h .block ∷ []
-confirmedAt h Cs3 = h .block ∷ []
-confirmedAt h Rq = []
-confirmedAt h Else = []
+confirmedAt h f = if confirming h f then h .block ∷ [] else []
 
 abbrev pub confirmedOf : Place → First → List Words
-confirmedOf (Sending h) f = confirmedAt h f
-confirmedOf (Turning n) f = []
-confirmedOf Opening f = []
-confirmedOf (Ending e) f = []
-confirmedOf (Receiving n) f = []
-confirmedOf Asking f = []
-confirmedOf StandBy f = []
-confirmedOf Lost f = []
+confirmedOf p f = atSending (λ h. confirmedAt h f) [] p
 
 abbrev pub confirmedBy : Station → Words → List Words
 confirmedBy s b = confirmedOf (s .place) (firstOf (b .0))
@@ -188,8 +157,3 @@ after (run ▷ e) = next (after run) e
 unfoldable pub AllHarmless : Run → Type 0
 AllHarmless start = Unit {0}
 AllHarmless (run ▷ e) = AllHarmless run × Harmless e
-
--- the event is a step
-abbrev pub isAnswered : Answer Reply → Bool
-isAnswered (answered r) = true
-isAnswered (refused n v) = false

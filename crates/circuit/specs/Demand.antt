@@ -9,11 +9,12 @@ use lib.ListN.{length}
 use Rattle.mode_a.specs.declared.Words.{Words}
 use Rattle.mode_a.specs.declared.Held.{Held}
 use Rattle.mode_a.specs.declared.Place.{Place}
-use Rattle.mode_a.specs.declared.Place.the-variants.{Sending, Turning, Opening, Ending, Receiving, Asking, StandBy, Lost}
-use Rattle.mode_a.specs.declared.Offer.{Offer}
+use Rattle.mode_a.specs.declared.Place.the-variants.{Sending, Opening, Receiving, Lost}
 use Rattle.mode_a.specs.Station.{RQ×3}
-use Rattle.mode_a.specs.Heard.{Cs3, firstOf, isBlock}
-use Rattle.circuit.specs.Circuit.{Event, heard, Harmless, Whole, Run, signalsIn, Direction, Circuit, said, next, after, AllHarmless, isAnswered}
+use Rattle.mode_a.specs.Heard.{Cs3, firstOf}
+use Rattle.runs.specs.Places.{atSending}
+use Rattle.runs.specs.Runs.{isAnswered, InOrder}
+use Rattle.circuit.specs.Circuit.{Event, heard, Harmless, Whole, Run, signalsIn, Direction, Circuit, said, next, after, AllHarmless}
 
 -- one list is a beginning of another
 pub record Beginning (A : Type 0) (begun whole : List A) : Type 0 where
@@ -34,14 +35,7 @@ pub record Carried (d : Direction) : Type 0 where
 -- What a station has taken and does not count as confirmed is the block that it holds, and nothing where it is not at Sending: none
 -- is dropped. One that is Lost is behind by one block at most.
 abbrev pub inHand : Place → List Words
-inHand (Sending h) = h .block ∷ []
-inHand (Turning n) = []
-inHand Opening = []
-inHand (Ending e) = []
-inHand (Receiving n) = []
-inHand Asking = []
-inHand StandBy = []
-inHand Lost = []
+inHand p = atSending (λ h. h .block ∷ []) [] p
 
 pub record Kept (p : Place) (d : Direction) : Type 0 where
   pub none-dropped : ¬ (p ≡ Lost) → d .taken ≡ d .confirmed ++ inHand p
@@ -73,13 +67,6 @@ InTime c = ¬ (c .hearer .place ≡ Lost) × ¬ (c .sender .place ≡ Lost)
 -- the other still awaits the block, and RQ RQ RQ is on the way in its place
 abbrev pub AwaitsAtRq : Held → Circuit → Type 0
 AwaitsAtRq h c = (c .hearer .place ≡ Receiving (h .number)) × (c .burst ≡ RQ×3)
-
--- an offer that is not refused: each word of a text is traffic or β
-abbrev pub InOrder : Offer → Type 0
-InOrder (Offer.Text w) = isBlock w ≡ true
-InOrder Offer.Over = Unit {0}
-InOrder Offer.End = Unit {0}
-InOrder Offer.Nothing = Unit {0}
 
 -- Of a circuit, whose stations are the one that hears next and the one that has sent.
 --     hearer-keeps, sender-keeps    no block that is taken is dropped

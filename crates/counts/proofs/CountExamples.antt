@@ -1,4 +1,4 @@
--- Single runs, computed: the four of Ending, and Stand-by. The latest event stands first.
+-- Single runs, computed: the four of Ending, and Stand-by.
 --     four-times          ααα is sent four times in a row; a refused offer between is no step
 --     no-three            so three is too small a bound
 --     then-standby        the fifth time Stand-by follows, whatever is heard
@@ -6,7 +6,6 @@
 --                         station that is there
 -- Assumes nothing.
 use mathlib.Core.Path.{_≡_, refl}
-use mathlib.Core.List.{List, [], _∷_}
 use Prim.Native.Nat.{_≤_}
 use native.Mathlib.Omega.{arith}
 use Rattle.signals.specs.Meaning.{meaningOf, trafficOf, cs1}
@@ -18,7 +17,8 @@ use Rattle.mode_a.specs.Station.{single, silence, ααα, asksFor, freshMaster,
 use Rattle.mode_a.specs.Heard.{firstOf, mayHold, isBlock, isWords, heardOf}
 use Rattle.mode_a.specs.Over.{listened}
 use Rattle.mode_a.specs.Step.{movedTo, sends, trafficIn, done, sound, stepping}
-use Rattle.counts.specs.Runs.{Event, after, alphasInARow}
+use Rattle.runs.specs.Runs.{Event, Run, start, _▷_, after}
+use Rattle.counts.specs.Runs.{alphasInARow}
 
 -- nothing heard and nothing offered; and with an offer that is refused
 abbrev nothing : Event
@@ -31,18 +31,18 @@ refusedOffer = record { burst = silence; offer = Offer.Text ααα }
 abbrev ends : Event
 ends = record { burst = single cs1; offer = Offer.End }
 
-abbrev unanswered : List Event
-unanswered = nothing ∷ nothing ∷ refusedOffer ∷ nothing ∷ ends ∷ []
+abbrev unanswered : Run
+unanswered = start ▷ ends ▷ nothing ▷ refusedOffer ▷ nothing ▷ nothing
 
 pub four-times : alphasInARow freshMaster unanswered ≡ 4
-unfolding alphasInARow after stepping sound done firstNot isBlock mayHold trafficOf meaningOf heardOf firstOf isWords listened trafficIn
+unfolding alphasInARow stepping sound done firstNot isBlock mayHold trafficOf meaningOf heardOf firstOf isWords listened trafficIn
 four-times = refl
 
-pub no-three : ((run : List Event) → alphasInARow freshMaster run ≤ 3) → ⊥
+pub no-three : ((run : Run) → alphasInARow freshMaster run ≤ 3) → ⊥
 no-three claim = omega (arith, claim unanswered, four-times)
 
-pub then-standby : (after freshMaster (nothing ∷ unanswered) .place ≡ StandBy) × (alphasInARow freshMaster (nothing ∷ unanswered) ≡ 0)
-unfolding alphasInARow after stepping sound done firstNot isBlock mayHold trafficOf meaningOf heardOf firstOf isWords listened trafficIn
+pub then-standby : (after freshMaster (unanswered ▷ nothing) .place ≡ StandBy) × (alphasInARow freshMaster (unanswered ▷ nothing) ≡ 0)
+unfolding alphasInARow stepping sound done firstNot isBlock mayHold trafficOf meaningOf heardOf firstOf isWords listened trafficIn
 then-standby = (refl, refl)
 
 pub answers-as-it-goes : stepping freshSlave ααα Offer.Nothing ≡ answered (sends (movedTo freshSlave StandBy) (asksFor Two))

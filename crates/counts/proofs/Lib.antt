@@ -1,6 +1,6 @@
 -- The repetition count of one station, its ααα, and Stand-by.
 --     StepLaws        one step: a repetition is a row that repeats; what that does to the count
---     EndLaws         one step: how often ααα has been sent, and Stand-by
+--     EndLaws         one step: how often ααα has been sent
 --     CountLaws       every run from a fresh station
 --     CountExamples   single runs: the four happen
 pub mod StepLaws

@@ -4,7 +4,6 @@
 -- Assumes nothing.
 use mathlib.Core.Path.{_≡_}
 use mathlib.Core.Bool.{true, false, _&&_}
-use mathlib.Core.List.{List, _∷_}
 use Prim.Native.Nat.{_≤_}
 use lib.Dec.{eqb}
 use Rattle.signals.specs.Numbers.{answered}
@@ -14,9 +13,11 @@ use Rattle.mode_a.specs.declared.Station.{Station}
 use Rattle.mode_a.specs.declared.Reply.{Reply}
 use Rattle.mode_a.specs.Station.{silence}
 use Rattle.mode_a.specs.Step.{stepping}
-use Rattle.counts.specs.Runs.{Event, after, isLost, repetition, inARow, alphasInARow}
+use Rattle.runs.specs.Places.{isLost}
+use Rattle.runs.specs.Runs.{Event, Run, _▷_, after}
+use Rattle.counts.specs.Runs.{repetition, inARow, alphasInARow}
 
-pub record Counted (fresh : Station) (run : List Event) : Type 0 where
+pub record Counted (fresh : Station) (run : Run) : Type 0 where
   -- while the station is not Lost, its count is the number of repetitions in a row that the run ends in, 31 at most
   pub counts : isLost (after fresh run .place) ≡ false → after fresh run .count ≡ inARow fresh run
   pub at-most : isLost (after fresh run .place) ≡ false → inARow fresh run ≤ 31
@@ -27,7 +28,7 @@ pub record Counted (fresh : Station) (run : List Event) : Type 0 where
   -- it is then silent, and takes no offer
   pub lost-is-silent : (e : Event) (r : Reply) → stepping (after fresh run) (e .burst) (e .offer) ≡ answered r → isLost (r .station .place) ≡ true → (r .sent ≡ silence) × (r .printed ≡ silence) × (r .taken ≡ false)
   -- and once Lost it stays so
-  pub lost-for-good : (e : Event) → isLost (after fresh run .place) ≡ true → isLost (after fresh (e ∷ run) .place) ≡ true
+  pub lost-for-good : (e : Event) → isLost (after fresh run .place) ≡ true → isLost (after fresh (run ▷ e) .place) ≡ true
   -- "Ending has its four instead"  R-071, R-072, R-100: at Ending ααα has been sent as often in a row as its total says
   pub totals : (x : Ended) → after fresh run .place ≡ Ending x → x .total ≡ alphasInARow fresh run
   -- never more than four times
@@ -37,4 +38,4 @@ pub record Counted (fresh : Station) (run : List Event) : Type 0 where
   -- "silent for good, no offer taken"  R-084: at Stand-by it is silent, prints nothing and takes no offer
   pub standby-is-silent : (e : Event) (r : Reply) → stepping (after fresh run) (e .burst) (e .offer) ≡ answered r → after fresh run .place ≡ StandBy → (r .sent ≡ silence) × (r .printed ≡ silence) × (r .taken ≡ false)
   -- and stays there
-  pub standby-for-good : (e : Event) → after fresh run .place ≡ StandBy → after fresh (e ∷ run) .place ≡ StandBy
+  pub standby-for-good : (e : Event) → after fresh run .place ≡ StandBy → after fresh (run ▷ e) .place ≡ StandBy

@@ -1,7 +1,7 @@
 -- The over in single runs of a fresh slave: what is easily got wrong. Each over is told by its splitting; where there is none, by
 -- the place that the station computes to, through `over-heard-exactly`.
 -- Assumes nothing.
-use mathlib.Core.Path.{_≡_, refl}
+use mathlib.Core.Path.{_≡_, refl, sym, _∙_}
 use mathlib.Core.List.{[], _∷_}
 use Prim.Native.Nat.{ℕ}
 use native.Mathlib.Omega.{arith}
@@ -17,7 +17,9 @@ use Rattle.mode_a.specs.Station.{words}
 use Rattle.mode_a.specs.Heard.{firstOf, mayHold, isBlock, isWords, heardOf}
 use Rattle.mode_a.specs.Over.{query, cross, listened}
 use Rattle.mode_a.specs.Step.{trafficIn, done, sound, stepping}
-use Rattle.overs.specs.Overs.{Event, Run, start, _▷_, accepted, earlier, since, caseAfter, OverIn}
+use Rattle.runs.specs.Runs.{Event, Run, start, _▷_}
+use Rattle.runs.proofs.PlaceLaws.{places-apart}
+use Rattle.overs.specs.Overs.{accepted, earlier, since, caseAfter, OverIn}
 use Rattle.overs.proofs.OverLaws.{over-heard-exactly}
 
 -- a burst heard and nothing offered; a block heard and an over offered
@@ -28,7 +30,7 @@ abbrev breaks : ℕ → ℕ → ℕ → Event
 breaks x y z = record { burst = words x y z; offer = Offer.Over }
 
 elsewhere : (p : Place) (n : Number) → p ≡ Receiving n → p ≡ Asking → ⊥
-elsewhere p n r a = let z : _≡_ {A = ℕ} 0 1 = cc in omega arith
+elsewhere p n r a = places-apart (Receiving n) Asking refl (sym r ∙ a)
 
 -- the +, β, and the ?, each in a block of its own; a letters shift behind the ?
 β-between : OverIn Slave (start ▷ hears figures cross beta ▷ hears beta beta beta) (hears beta query letters)

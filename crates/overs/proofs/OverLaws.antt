@@ -26,7 +26,8 @@ use Rattle.mode_a.specs.declared.Listening.{Listening}
 use Rattle.mode_a.specs.Station.{listOf}
 use Rattle.mode_a.specs.Over.{query, cross, listenedAll}
 use Rattle.mode_a.specs.Step.{isOver}
-use Rattle.overs.specs.Overs.{Event, Run, start, _▷_, fresh, next, after, isAccepted, cancels, accepted, earlier, since, caseAfter, HeardOver, OverIn}
+use Rattle.runs.specs.Runs.{Event, Run, start, _▷_, next, after}
+use Rattle.overs.specs.Overs.{fresh, isAccepted, cancels, accepted, earlier, since, caseAfter, HeardOver, OverIn}
 use Rattle.overs.proofs.ListLaws.{case-append}
 use Rattle.overs.proofs.SignalLaws.{Ends, Keeps, OverAt, keep-words, over-found, over-heard, cross-then-betas}
 use Rattle.overs.proofs.StepLaws.{Took, Effect, cancelled, took, left, effect}

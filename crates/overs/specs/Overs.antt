@@ -12,7 +12,7 @@
 -- A turn cancels the + and leaves the case. Blocks that the station sends, and bursts that it does not accept, are in no list.
 -- Assumes nothing.
 use mathlib.Core.Path.{_≡_}
-use mathlib.Core.Bool.{Bool, true, false, _&&_}
+use mathlib.Core.Bool.{Bool, _&&_, _||_}
 use mathlib.Core.List.{List, [], _∷_, _++_}
 use Prim.Native.Nat.{ℕ, _<_}
 use lib.Dec.{eqb}
@@ -21,88 +21,31 @@ use Rattle.laws.specs.Choice.{if_then_else_}
 use Rattle.signals.specs.declared.Case.{Case}
 use Rattle.signals.specs.declared.Case.the-variants.{Letters, Figures}
 use Rattle.signals.specs.Meaning.{letters, figures, beta}
-use Rattle.signals.specs.Numbers.{Answer, answered, refused}
 use Rattle.mode_a.specs.declared.Role.{Role}
 use Rattle.mode_a.specs.declared.Role.the-variants.{Master, Slave}
-use Rattle.mode_a.specs.declared.Words.{Words}
 use Rattle.mode_a.specs.declared.Place.{Place}
-use Rattle.mode_a.specs.declared.Place.the-variants.{Sending, Turning, Opening, Ending, Receiving, Asking, StandBy, Lost}
-use Rattle.mode_a.specs.declared.Offer.{Offer}
 use Rattle.mode_a.specs.declared.Station.{Station}
-use Rattle.mode_a.specs.declared.Reply.{Reply}
 use Rattle.mode_a.specs.Station.{listOf, freshMaster, freshSlave}
-use Rattle.mode_a.specs.Heard.{isBlock}
+use Rattle.mode_a.specs.Heard.{heardOf}
 use Rattle.mode_a.specs.Over.{query, cross}
-use Rattle.mode_a.specs.Step.{stepping, stationAfter}
-
--- what a step is called with, beside the station
-pub record Event : Type 0 where
-  pub burst : Words
-  pub offer : Offer
-
--- a run: no event yet, or a run and the event after it
-infixl 60 _▷_
-pub data Run : Type 0 where
-  start : Run
-  _▷_ : Run → Event → Run
+use Rattle.runs.specs.Places.{isTurning, isOpening, isReceiving, isAsking}
+use Rattle.runs.specs.Runs.{Event, Run, start, _▷_, said, next, after, isAnswered, accepting}
 
 -- "A fresh master is Opening. A fresh slave is Receiving, awaits 1"  R-092, R-093, R-095
 abbrev pub fresh : Role → Station
 fresh Master = freshMaster
 fresh Slave = freshSlave
 
--- the station after an event, and after a run. A refused event is no step: it leaves the station as it was.
-abbrev pub said : Station → Event → Answer Reply
-said s e = stepping s (e .burst) (e .offer)
-
-abbrev pub next : Station → Event → Station
-next s e = stationAfter s (said s e)
-
-abbrev pub after : Station → Run → Station
-after s start = s
-after s (run ▷ e) = next (after s run) e
-
--- "Only accepted blocks count here": the station is Receiving, the step is answered, and the burst is a block  R-090
-abbrev pub isAnswered : Answer Reply → Bool
-isAnswered (answered r) = true
-isAnswered (refused n v) = false
-
-abbrev pub isReceiving : Place → Bool
-isReceiving (Sending h) = false
-isReceiving (Turning n) = false
-isReceiving Opening = false
-isReceiving (Ending e) = false
-isReceiving (Receiving n) = true
-isReceiving Asking = false
-isReceiving StandBy = false
-isReceiving Lost = false
-
+-- "Only accepted blocks count here": the step is answered, and it accepts  R-090
 abbrev pub isAccepted : Station → Event → Bool
-isAccepted s e = isAnswered (said s e) && (isReceiving (s .place) && isBlock (e .burst))
+isAccepted s e = isAnswered (said s e) && accepting (s .place) (heardOf (e .burst))
 
 abbrev pub acceptedIn : Station → Event → List ℕ
 acceptedIn s e = if isAccepted s e then listOf (e .burst) else []
 
 -- "the step from Asking to Opening or from Turning to Receiving": by the place before and the place after  R-089
-abbrev pub isOpening : Place → Bool
-isOpening (Sending h) = false
-isOpening (Turning n) = false
-isOpening Opening = true
-isOpening (Ending e) = false
-isOpening (Receiving n) = false
-isOpening Asking = false
-isOpening StandBy = false
-isOpening Lost = false
-
 abbrev pub cancelling : Place → Place → Bool
-cancelling (Sending h) q = false
-cancelling (Turning n) q = isReceiving q
-cancelling Opening q = false
-cancelling (Ending e) q = false
-cancelling (Receiving n) q = false
-cancelling Asking q = isOpening q
-cancelling StandBy q = false
-cancelling Lost q = false
+cancelling p q = isAsking p && isOpening q || isTurning p && isReceiving q
 
 abbrev pub cancels : Station → Event → Bool
 cancels s e = cancelling (s .place) (next s e .place)

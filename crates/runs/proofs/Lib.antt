@@ -1,0 +1,7 @@
+-- Laws of places and of single steps that the theorems over runs cite.
+--     PlaceLaws   places told apart by their numbers
+--     RowLaws     what each row may do
+--     StepLaws    an answer is what the row did; what is so of each thing that a row may do; what a refusal leaves
+pub mod PlaceLaws
+pub mod RowLaws
+pub mod StepLaws
