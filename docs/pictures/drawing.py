@@ -2,8 +2,18 @@
 from xml.sax.saxutils import escape
 
 WIDTH = 680
-INK, GREY, RED, SHADE, PAPER = "#111111", "#555555", "#b00020", "#dcebdc", "#f6f6f2"
+INK, GREY, RED, SHADE, PAPER, BLUSH = "#111111", "#3d3d3d", "#b00020", "#dcebdc", "#f6f6f2", "#fbe6e8"
 SIZE = 11               # 7.8 points on that page
+
+
+def contrast(colour, ground):
+    """How much two colours stand out from each other, 1 to 21, as the W3C's guidelines for web content reckon it."""
+    def light(hexadecimal):
+        parts = [int(hexadecimal[at:at + 2], 16) / 255 for at in (1, 3, 5)]
+        red, green, blue = [part / 12.92 if part <= 0.03928 else ((part + 0.055) / 1.055) ** 2.4 for part in parts]
+        return 0.2126 * red + 0.7152 * green + 0.0722 * blue
+    dark, bright = sorted((light(colour), light(ground)))
+    return (bright + 0.05) / (dark + 0.05)
 
 
 # The advance of each character in DejaVu Sans, which is wider than Helvetica and Arial, in hundredths of the size.
@@ -15,6 +25,18 @@ for advance, characters in ((28, "ijl'"), (30, "IJ"), (32, " .,"), (34, ":;/"), 
 
 def width_of(text, size=SIZE, bold=False):
     return sum(ADVANCES.get(character, 100) for character in text) / 100 * size * (1.13 if bold else 1)
+
+
+def wrapped(text, room, size=SIZE):
+    """The text in lines that fit into the room."""
+    lines = [""]
+    for word in text.split():
+        longer = (lines[-1] + " " + word).strip()
+        if width_of(longer, size) > room:
+            lines.append(word)
+        else:
+            lines[-1] = longer
+    return lines
 
 
 class Picture:
@@ -37,7 +59,8 @@ class Picture:
     def dot(self, x, y, radius, fill=INK):
         self.parts.append('<circle cx="%g" cy="%g" r="%g" fill="%s"/>' % (x, y, radius, fill))
 
-    def line(self, *points, stroke=INK, dashed=False, arrow=False, wide=1.2):
+    def line(self, *points, stroke=INK, dashed="", arrow=False, wide=1.2):
+        """A line through the points. `dashed` is how long a dash is and how far the next, as "5 3"."""
         if arrow:
             (x, y), (tip_x, tip_y) = points[-2:]
             long = ((tip_x - x) ** 2 + (tip_y - y) ** 2) ** 0.5
@@ -47,7 +70,7 @@ class Picture:
                 tip_x, tip_y, base_x - 4 * v, base_y + 4 * u, base_x + 4 * v, base_y - 4 * u, stroke))
             points = points[:-1] + ((base_x, base_y),)
         self.parts.append('<path d="M%s" fill="none" stroke="%s" stroke-width="%g"%s/>' % (
-            " L".join("%.1f %.1f" % point for point in points), stroke, wide, ' stroke-dasharray="5 3"' if dashed else ""))
+            " L".join("%.1f %.1f" % point for point in points), stroke, wide, ' stroke-dasharray="%s"' % dashed if dashed else ""))
 
     def cross(self, x, y, stroke=RED):
         self.line((x - 5, y - 5), (x + 5, y + 5), stroke=stroke, wide=2)

@@ -1,4 +1,6 @@
-"""The proved programs `rows` and `steps`, driven: the table of actions, single steps, and runs of two stations."""
+"""The proved programs, driven: the table of actions (`rows`), single steps and runs of two stations (`steps`), texts (`encode`), and
+mode B (`send`, `receive`)."""
+import functools
 import os
 import random
 import subprocess
@@ -33,10 +35,32 @@ def fresh(role):
 FIRST_BURST = (CS1, 0, 0)       # 01: a fresh slave's first burst is CS1
 
 
+PROGRAMS = ("rows", "steps", "encode", "send", "receive")
+
+
+class NotRun(Exception):
+    """A program could not be built, or did not do what it was run for."""
+
+
+def build():
+    """Each program proved and built, where it is not already."""
+    for name in PROGRAMS:
+        started(subprocess.run, "./telex", name, stdin=subprocess.DEVNULL, stdout=subprocess.DEVNULL)
+
+
+def started(how, *command, **streams):
+    try:
+        done = how(command, cwd=ROOT, **streams)
+    except OSError as fault:
+        raise NotRun("%s: %s" % (" ".join(command), fault.strerror))
+    if done.returncode:
+        raise NotRun("%s ended with status %d" % (" ".join(command), done.returncode))
+    return done
+
+
 def run(name, data):
-    """What a program that the gate has built writes."""
-    done = subprocess.run(["./telex", "--built", name], cwd=ROOT, input=data, stdout=subprocess.PIPE, check=True)
-    return done.stdout.decode("ascii")
+    """What a program that is built writes."""
+    return started(subprocess.run, "./telex", "--built", name, input=data, stdout=subprocess.PIPE).stdout.decode("ascii")
 
 
 def table():
@@ -57,9 +81,15 @@ def kinds_of(bursts):
     return {burst: line.split()[3] for burst, line in zip(bursts, lines[-len(bursts):])}
 
 
+@functools.lru_cache(None)
 def encoded(text):
     """The signals of a text, from the program `encode`."""
     return tuple(int(word) for word in run("encode", text.encode("ascii")).split())
+
+
+def words(name, some):
+    """What `send` or `receive` makes of these words."""
+    return tuple(int(word) for word in run(name, " ".join(map(str, some)).encode("ascii")).split())
 
 
 def record(station, burst, offer):
@@ -68,7 +98,10 @@ def record(station, burst, offer):
                  + (OFFERS.index(offer.what),) + offer.words)
 
 
+@functools.lru_cache(1 << 16)
 def answer(role, line):
+    if not line.endswith("\n"):
+        raise NotRun("./telex --built steps ended before it had answered")
     if line.startswith("refused"):
         raise SystemExit("a step was refused: " + line)
     place, sent, printed, taken = [part.split() for part in line.split("|")]
@@ -80,15 +113,17 @@ def answer(role, line):
 
 class Steps:
     """The program `steps`, kept running."""
-    AT_ONCE = 400           # so many lines stay within a pipe's room
+    AT_ONCE = 4096 // 17    # so many records of 17 bytes any pipe takes whole: the answers to all before have been read by then
 
     def __enter__(self):
-        self.process = subprocess.Popen(["./telex", "--built", "steps"], cwd=ROOT,
-                                        stdin=subprocess.PIPE, stdout=subprocess.PIPE)
+        self.process = started(subprocess.Popen, "./telex", "--built", "steps", stdin=subprocess.PIPE, stdout=subprocess.PIPE)
         return self
 
     def __exit__(self, *_):
-        self.process.stdin.close()
+        try:
+            self.process.stdin.close()
+        except OSError:
+            pass
         self.process.wait()
 
     def all(self, asked):
@@ -96,8 +131,11 @@ class Steps:
         answers = []
         for first in range(0, len(asked), self.AT_ONCE):
             some = asked[first:first + self.AT_ONCE]
-            self.process.stdin.write(b"".join(record(*one) for one in some))
-            self.process.stdin.flush()
+            try:
+                self.process.stdin.write(b"".join(record(*one) for one in some))
+                self.process.stdin.flush()
+            except OSError as fault:
+                raise NotRun("./telex --built steps takes no more records: %s" % fault.strerror)
             answers += [answer(one[0].role, self.process.stdout.readline().decode("ascii")) for one in some]
         return answers
 
@@ -123,12 +161,14 @@ def damaged(chance, burst, rate):
     return tuple(pick(chance, (0, 127)) if chance.random() < rate else word for word in burst)
 
 
+IN_TEXT = TRAFFIC + [BETA, CS1, CS2, CS3] * 4       # words that are a control signal's are chosen more often
+
+
 def offered(chance):
     what = pick(chance, ("nothing", "text", "text", "text", "over", "over", "end"))
     if what != "text":
         return Offer(what, SILENCE)
-    # words that are a control signal's are chosen more often
-    return Offer(what, tuple(pick(chance, TRAFFIC + [BETA, CS1, CS2, CS3] * 4) for _ in range(3)))
+    return Offer(what, tuple(pick(chance, IN_TEXT) for _ in range(3)))
 
 
 RATES = (0, 0.02, 0.1, 0.3, 0.6, 0.9, 1)
