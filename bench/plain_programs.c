@@ -1,22 +1,113 @@
 /* not proved: for comparison only */
 
-/* The programs steps, receive and calls over the calls of plain.h: NAME as the
- * argument, standard input and output as docs/FORMATS.md gives them.  bench/run
- * --check compares what they write with what the proved programs write.
+/* The programs hear, receive, steps and calls over the calls of plain.h: NAME as
+ * the argument, standard input, output and error and the status as
+ * docs/FORMATS.md gives them.  bench/run --check compares them with the proved
+ * programs.
  *
  *     gcc -std=c11 -O2 -Wall -Wextra -Wpedantic plain.c plain_programs.c -o programs
  *     ./programs steps < input
  *
+ * hear and receive are filters written to be quick, by the block as the proved
+ * ones are, and bench/run --filters measures them.  steps and calls read all of
+ * their input first.
+ *
  * Where a refused call changed a station or a receiver, or a call wrote beyond its
  * room, the record's line says so, which no line of FORMATS.md does. */
 
+#define _POSIX_C_SOURCE 200809L
+
 #include "plain.h"
 
+#include <errno.h>
+#include <signal.h>
+#include <stdarg.h>
 #include <stdio.h>
 #include <stdlib.h>
 #include <string.h>
+#include <unistd.h>
+
+#ifndef BLOCK
+#define BLOCK 4096
+#endif
 
 enum { FILLED_WITH = 170, MOST_ROOM = 8192, MOST_LENGTH = 8193, BEHIND = 64 };
+
+enum { LONGEST_LINE = 2 * MOST_ROOM + 100 };
+
+static const char *name;
+
+/* --- Standard output: written when a block of it is there, and before more is
+ * read or something is told --- */
+
+static uint8_t output[BLOCK + LONGEST_LINE];
+static uint8_t *out = output;
+
+/* The last thing a program does where it does not end well. */
+static _Noreturn void stop(const char *told)
+{
+    fprintf(stderr, "%s: %s\n", name, told);
+    exit(1);
+}
+
+static void flush(void)
+{
+    const uint8_t *from = output;
+
+    while (from != out) {
+        ssize_t done = write(STDOUT_FILENO, from, (size_t)(out - from));
+
+        if (done < 0 && errno == EINTR)
+            continue;
+        if (done <= 0)
+            stop("cannot write standard output");
+        from += done;
+    }
+    out = output;
+}
+
+static inline void end_of_line(void)
+{
+    if (out >= output + BLOCK)
+        flush();
+}
+
+static void tell(const char *format, ...)
+{
+    char told[100];
+    va_list values;
+
+    va_start(values, format);
+    vsnprintf(told, sizeof told, format, values);
+    va_end(values);
+    flush();
+    stop(told);
+}
+
+static void put(const char *format, ...)
+{
+    va_list values;
+
+    va_start(values, format);
+    out += vsnprintf((char *)out, LONGEST_LINE, format, values);
+    va_end(values);
+    end_of_line();
+}
+
+/* --- Standard input --- */
+
+static size_t read_some(uint8_t *into, size_t most)
+{
+    ssize_t got;
+
+    flush();
+    do
+        got = read(STDIN_FILENO, into, most);
+    while (got < 0 && errno == EINTR);
+    if (got < 0)
+        stop("cannot read standard input");
+    return (size_t)got;
+}
 
 static uint8_t *input;
 static size_t size;
@@ -33,7 +124,7 @@ static void read_input(void)
             if (input == NULL)
                 exit(2);
         }
-        got = fread(input + size, 1, most - size, stdin);
+        got = read_some(input + size, most - size);
         size += got;
     } while (got != 0);
 }
@@ -63,6 +154,7 @@ static void steps(void)
         "receiving", "asking", "standby", "lost"
     };
 
+    read_input();
     for (size_t at = 0; size - at >= 17; at += 17) {
         const uint8_t *r = input + at;
         struct station s = {
@@ -86,11 +178,11 @@ static void steps(void)
                           || s.count != was.count || s.heard != was.heard
                           || s.slave != was.slave;
 
-            printf("refused %u %u%s\n", step_refusal(given), step_value(given),
+            put("refused %u %u%s\n", step_refusal(given), step_value(given),
                    changed ? " and changed" : "");
             continue;
         }
-        printf("%s %d %u %u %u %d %d %s %d | %u %u %u | %u %u %u | %u%s\n",
+        put("%s %d %u %u %u %d %d %s %d | %u %u %u | %u %u %u | %u%s\n",
                PLACES[s.place % 8], numbered ? s.second + 1 : 0,
                word_of(held, 0), word_of(held, 1), word_of(held, 2),
                s.place == PLACE_ENDING ? s.total : 0, s.count,
@@ -103,46 +195,205 @@ static void steps(void)
 
 /* --- receive --- */
 
-static int is_white(uint8_t byte)
+static inline int is_white(uint8_t byte)
 {
-    return byte == 32 || byte == 9 || byte == 13 || byte == 10;
+    return byte <= 32
+           && (UINT64_C(1) << 32 | 1u << 9 | 1u << 13 | 1u << 10) >> byte & 1;
+}
+
+struct decimal {
+    uint8_t digits[3];
+    uint8_t length;
+};
+
+static struct decimal DECIMALS[256];
+
+static void make_decimals(void)
+{
+    for (unsigned value = 0; value < 256; value++) {
+        char digits[4];
+
+        DECIMALS[value].length = (uint8_t)snprintf(digits, sizeof digits, "%u", value);
+        memcpy(DECIMALS[value].digits, digits, 3);
+    }
+}
+
+/* Sixteen words to a line. */
+static inline unsigned put_word(unsigned word, unsigned on_line)
+{
+    *out = ' ';
+    out += on_line != 0;
+    memcpy(out, DECIMALS[word].digits, 3);
+    out += DECIMALS[word].length;
+    if (++on_line < 16)
+        return on_line;
+    *out++ = '\n';
+    end_of_line();
+    return 0;
 }
 
 static void receive(void)
 {
+    static uint8_t block[BLOCK + 1];
     struct receiver receiver = plain_fresh_receiver();
-    size_t at = 0;
+    const char *fault = NULL;
+    size_t before = 0;          /* bytes in the blocks before this one */
+    size_t first = 0;           /* where a number begins, or the next would */
+    unsigned value = 0;         /* of the digits since then */
+    unsigned digits = 0;        /* whether there are any */
     unsigned on_line = 0;
+    size_t got;
 
-    for (;;) {
-        size_t first;
-        unsigned value = 0;
-        unsigned printed;
+    make_decimals();
+    while (fault == NULL && (got = read_some(block, BLOCK)) != 0) {
+        const uint8_t *at = block;
 
-        while (at < size && is_white(input[at]))
+        /* A byte that is neither digit nor white space ends the loops. */
+        block[got] = 0;
+        for (;;) {
+            unsigned digit;
+
+            while ((digit = *at - (unsigned)'0') < 10 && value <= 255) {
+                value = 10 * value + digit;
+                digits = 1;
+                at++;
+            }
+            if (value > 255) {
+                fault = "over 255";
+                break;
+            }
+            if (at == block + got)
+                break;
+            if (!is_white(*at)) {
+                fault = "a byte that is no digit";
+                break;
+            }
+            if (digits) {
+                unsigned printed = plain_receive(&receiver, (uint8_t)value);
+
+                if (printed != 0)
+                    on_line = put_word(printed, on_line);
+                value = 0;
+                digits = 0;
+            }
             at++;
-        if (at == size)
-            break;
-        for (first = at; at < size && !is_white(input[at]); at++) {
-            if (input[at] < '0' || input[at] > '9' || value > 255)
-                value = 256;
-            else
-                value = 10 * value + (input[at] - '0');
+            first = before + (size_t)(at - block);
         }
-        if (value > 255) {
-            fprintf(stderr, "not a number at %zu\n", first);
-            break;
-        }
-        printed = plain_receive(&receiver, (uint8_t)value);
-        if (printed != 0) {
-            printf(on_line == 0 ? "%u" : " %u", printed);
-            on_line = (on_line + 1) % 16;
-            if (on_line == 0)
-                putchar('\n');
-        }
+        before += got;
+    }
+    if (fault == NULL && digits) {
+        unsigned printed = plain_receive(&receiver, (uint8_t)value);
+
+        if (printed != 0)
+            on_line = put_word(printed, on_line);
     }
     if (on_line != 0)
-        putchar('\n');
+        *out++ = '\n';
+    if (fault != NULL)
+        tell("not a number at %zu: %s", first, fault);
+}
+
+/* --- hear --- */
+
+/* A text of up to seven bytes, copied whole. */
+struct short_text {
+    char text[7];
+    uint8_t length;
+};
+
+static const struct short_text NAMES[256] = {
+    [WORD_CS1] = { "CS1", 3 }, [WORD_CS2] = { "CS2", 3 }, [WORD_CS3] = { "CS3", 3 },
+    [WORD_RQ] = { "RQ", 2 }, [WORD_ALPHA] = { "alpha", 5 }, [WORD_BETA] = { "beta", 4 }
+};
+
+static inline void put_short(struct short_text text)
+{
+    memcpy(out, text.text, sizeof text.text);
+    out += text.length;
+}
+
+/* The number of the step, in decimal: it is counted up as it is written. */
+static uint8_t number[20] = "00000000000000000000";
+static unsigned number_from = sizeof number - 1;
+
+static inline void put_next_number(void)
+{
+    unsigned index = sizeof number - 1;
+
+    while (number[index] == '9')
+        number[index--] = '0';
+    number[index]++;
+    if (index < number_from)
+        number_from = index;
+    memcpy(out, number + number_from, sizeof number - number_from);
+    out += sizeof number - number_from;
+}
+
+static void put_burst(uint32_t burst)
+{
+    put_short(NAMES[burst & 0xFF]);
+    while ((burst >>= 8) != 0) {
+        *out++ = '.';
+        put_short(NAMES[burst & 0xFF]);
+    }
+}
+
+static unsigned put_printed(uint32_t printed, unsigned in_case)
+{
+    static const char DIGITS[16] = "0123456789ABCDEF";
+    uint8_t words[3] = { (uint8_t)printed, (uint8_t)(printed >> 8), (uint8_t)(printed >> 16) };
+    size_t length = (words[0] != 0) + (words[1] != 0) + (words[2] != 0);
+    uint8_t room[3];
+    answer given = plain_print(words, length, in_case, room, sizeof room);
+
+    for (uint32_t i = 0; i < answer_value(given); i++) {
+        *out++ = (uint8_t)DIGITS[room[i] >> 4];
+        *out++ = (uint8_t)DIGITS[room[i] & 15];
+    }
+    if (answer_value(given) == 0)
+        put_short((struct short_text){ "none", 4 });
+    return answer_case(given);
+}
+
+static void hear_burst(struct station *slave, unsigned *in_case, uint32_t burst)
+{
+    step_answer given = plain_step(slave, burst, offer_of(OFFER_NOTHING, 0));
+
+    put_next_number();
+    *out++ = ' ';
+    if (step_sent(given) == 0)
+        put_short((struct short_text){ "silent", 6 });
+    else
+        put_burst(step_sent(given));
+    *out++ = ' ';
+    if (step_printed(given) == 0)
+        put_short((struct short_text){ "none", 4 });
+    else
+        *in_case = put_printed(step_printed(given), *in_case);
+    *out++ = '\n';
+    end_of_line();
+}
+
+static void hear(void)
+{
+    static uint8_t block[2 + BLOCK];    /* before what is read, a burst begun */
+    struct station slave = plain_fresh_slave();
+    unsigned in_case = LETTERS_CASE;
+    size_t begun = 0;
+    size_t got;
+
+    put("step answer printed\n");
+    while ((got = read_some(block + begun, BLOCK)) != 0) {
+        size_t at = 0;
+
+        got += begun;
+        for (; got - at >= 3; at += 3)
+            hear_burst(&slave, &in_case, burst_of(block[at], block[at + 1], block[at + 2]));
+        begun = got - at;
+        memmove(block, block + at, begun);
+    }
+    if (begun != 0)
+        hear_burst(&slave, &in_case, burst_of(block[0], begun > 1 ? block[1] : 0, 0));
 }
 
 /* --- calls --- */
@@ -181,10 +432,10 @@ static void call_text(const uint8_t *r, size_t room_length, size_t length)
     for (size_t i = room_length; i < sizeof room; i++)
         beyond |= room[i] != FILLED_WITH;
     if (answer_refusal(given) != 0)
-        printf("refused %u %u ", answer_refusal(given), answer_value(given));
+        put("refused %u %u ", answer_refusal(given), answer_value(given));
     else
-        printf("ok %u %s ", answer_value(given), CASES[answer_case(given) % 2]);
-    printf("%s%s\n", shown, beyond ? " and beyond" : "");
+        put("ok %u %s ", answer_value(given), CASES[answer_case(given) % 2]);
+    put("%s%s\n", shown, beyond ? " and beyond" : "");
 }
 
 static void call_slot(const uint8_t *r, size_t length)
@@ -192,9 +443,9 @@ static void call_slot(const uint8_t *r, size_t length)
     answer given = plain_slot(r + 7, length, low_first(r + 1, 4));
 
     if (answer_refusal(given) != 0)
-        printf("refused %u %u\n", answer_refusal(given), answer_value(given));
+        put("refused %u %u\n", answer_refusal(given), answer_value(given));
     else
-        printf("ok %u\n", answer_value(given));
+        put("ok %u\n", answer_value(given));
 }
 
 static void call_receive(const uint8_t *r)
@@ -218,15 +469,15 @@ static void call_receive(const uint8_t *r)
                       || receiver.run != was.run || receiver.last != was.last
                       || receiver.printing != was.printing;
 
-        printf("refused 4 0%s\n", changed ? " and changed" : "");
+        put("refused 4 0%s\n", changed ? " and changed" : "");
     } else if (receiver.phase == PHASE_SEARCHING) {
-        printf("searching %u %s | %u\n", receiver.run,
+        put("searching %u %s | %u\n", receiver.run,
                receiver.run == 0 ? "none" : receiver.last == WORD_ALPHA ? "alpha"
                : receiver.last == WORD_RQ ? "RQ" : "another", printed);
     } else {
         int next_is_dx = receiver.phase == PHASE_DX;
 
-        printf("phase %u %u %u %s %u 0 | %u\n",
+        put("phase %u %u %u %s %u 0 | %u\n",
                next_is_dx ? 0 : word_of(receiver.waiting, 2),
                word_of(receiver.waiting, 1), word_of(receiver.waiting, 0),
                next_is_dx ? "dx" : "rx", receiver.printing == 0 ? 0u : 1u, printed);
@@ -237,6 +488,7 @@ static void calls(void)
 {
     size_t at = 0;
 
+    read_input();
     while (at < size) {
         const uint8_t *r = input + at;
         size_t head = head_of(r[0]);
@@ -244,19 +496,22 @@ static void calls(void)
         size_t length = 0;
         int is_text = r[0] == 'E' || r[0] == 'P';
         int good = head != 0 && size - at >= head;
+        const char *bad;
 
         if (good && is_text)
             room_length = low_first(r + 2, 2);
         if (good && (is_text || r[0] == 'S'))
             length = low_first(r + head - 2, 2);
-        if (!good || room_length > MOST_ROOM || length > MOST_LENGTH
-            || size - at - head < length) {
-            fprintf(stderr, "bad record at %zu\n", at);
-            return;
-        }
+        bad = head == 0 ? "no such kind"
+              : !good ? "cut short"
+              : room_length > MOST_ROOM ? "a room over 8192"
+              : length > MOST_LENGTH ? "a length over 8193"
+              : size - at - head < length ? "cut short" : NULL;
+        if (bad != NULL)
+            tell("bad record at %zu: %s", at, bad);
         switch (r[0]) {
         case 'S': call_slot(r, length); break;
-        case 'M': printf("%u %u\n", plain_meaning(r[1]), plain_intact(r[1])); break;
+        case 'M': put("%u %u\n", plain_meaning(r[1]), plain_intact(r[1])); break;
         case 'R': call_receive(r); break;
         default: call_text(r, room_length, length); break;
         }
@@ -266,18 +521,26 @@ static void calls(void)
 
 int main(int count, char **words)
 {
-    const char *name = count == 2 ? words[1] : "";
+    static const struct {
+        const char *name;
+        void (*run)(void);
+    } PROGRAMS[] = {
+        { "hear", hear }, { "receive", receive }, { "steps", steps }, { "calls", calls }
+    };
 
-    read_input();
-    if (strcmp(name, "steps") == 0)
-        steps();
-    else if (strcmp(name, "receive") == 0)
-        receive();
-    else if (strcmp(name, "calls") == 0)
-        calls();
-    else {
-        fputs("usage: steps, receive or calls as the argument\n", stderr);
-        return 2;
+    signal(SIGPIPE, SIG_IGN);
+    for (size_t i = 0; count > 1 && i < sizeof PROGRAMS / sizeof PROGRAMS[0]; i++) {
+        name = PROGRAMS[i].name;
+        if (strcmp(words[1], name) != 0)
+            continue;
+        if (count > 2) {
+            fprintf(stderr, "%s: usage: ./telex %s < input\n", name, name);
+            return 2;
+        }
+        PROGRAMS[i].run();
+        flush();
+        return 0;
     }
-    return fflush(stdout) == 0 ? 0 : 2;
+    fputs("usage: hear, receive, steps or calls as the argument\n", stderr);
+    return 2;
 }

@@ -21,7 +21,7 @@ from collections import namedtuple
 sys.dont_write_bytecode = True
 
 import inputs  # noqa: E402
-from programs import PROGRAMS  # noqa: E402
+import programs  # noqa: E402
 
 HERE = os.path.dirname(os.path.abspath(__file__))
 
@@ -473,12 +473,49 @@ fault("words: values are cut to 32 bits", "print, send, receive", "programs",
       "value = min(value * 10 + byte - 48, 256)",
       "value = (value * 10 + byte - 48) % 2 ** 32")
 fault("words: the place told is behind the run", "print, send, receive",
-      "programs", "raise NotANumber(first)", "raise NotANumber(place)")
+      "programs", "raise NotANumber(first, \"over 255\")",
+      "raise NotANumber(place, \"over 255\")")
+fault("words: the place told is behind the byte that is no digit",
+      "print, send, receive", "programs",
+      "raise NotANumber(first, \"a byte", "raise NotANumber(place, \"a byte")
+fault("words: over 255 is told as no digit", "print, send, receive", "programs",
+      "raise NotANumber(first, \"over 255\")",
+      "raise NotANumber(first, \"a byte that is no digit\")")
+fault("words: a byte that is no digit is told as over 255",
+      "print, send, receive", "programs",
+      "raise NotANumber(first, \"a byte that is no digit\")",
+      "raise NotANumber(first, \"over 255\")")
+fault("words: a byte that is no digit is told before what comes to over 255",
+      "print, send, receive", "programs",
+      "        if value > 255:\n", "        if value > 255 and all_digits:\n")
+fault("words: digits behind a byte that is none count", "print, send, receive",
+      "programs", "            elif all_digits:\n", "            else:\n")
+fault("words: a byte that is no digit starts the value anew",
+      "print, send, receive", "programs", "                all_digits = False\n",
+      "                all_digits = False\n                value = 0\n")
+fault("words: a number has three digits at most", "print, send, receive",
+      "programs", "        if value > 255:\n",
+      "        if value > 255 or all_digits and place - first > 3:\n")
+fault("words: a sign before a number is taken", "print, send, receive", "programs",
+      "            if not 48 <= byte <= 57:\n",
+      "            if place == first and byte in b\"+-\":\n                pass\n"
+      "            elif not 48 <= byte <= 57:\n")
+fault("words: a number may not lie across a border of blocks",
+      "print, send, receive", "programs",
+      "                value = min(value * 10 + byte - 48, 256)\n",
+      "                if place % 4096 == 0:\n                    value = 0\n"
+      "                value = min(value * 10 + byte - 48, 256)\n")
+fault("words: the place is counted from the block", "print, send, receive",
+      "programs", "(fault.place, fault.reason)", "(fault.place % 4096, fault.reason)")
+fault("words: what ends at a border of blocks is lost", "print, send, receive",
+      "programs", "        found = found + 1\n",
+      "        if place == len(data) and place % 4096 == 0:\n            return\n"
+      "        found = found + 1\n")
 fault("words: more than the most are looked at", "print, send", "programs",
       "    while most is None or found < most:", "    while True:")
 fault("receive: a fault drops what was printed", "receive", "programs",
-      "        error = not_a_number_line(fault)\n    return write_words(printed), error",
-      "        return b\"\", not_a_number_line(fault)\n    return write_words(printed), error")
+      "        told = not_a_number(fault)\n    return write_words(printed), told",
+      "        return b\"\", not_a_number(fault)\n    return write_words(printed), told")
 fault("encode: one character too few is read", "encode", "programs",
       "data[:text.MOST_CHARACTERS + 1]", "data[:text.MOST_CHARACTERS]")
 fault("steps: a short last record is filled", "steps", "programs",
@@ -497,10 +534,33 @@ fault("calls: small letters are kinds", "calls", "programs",
       "            kind = data[place:place + 1]",
       "            kind = data[place:place + 1].upper()")
 fault("calls: a bad record is told at its end", "calls", "programs",
-      "error = error_line(\"bad record at\", place)",
-      "error = error_line(\"bad record at\", len(data))")
+      "% (place, fault)", "% (len(data), fault)")
+fault("calls: a bad record is told as cut short, whatever it is", "calls",
+      "programs", "% (place, fault)", "% (place, \"cut short\")")
+fault("calls: no such kind is told as cut short", "calls", "programs",
+      "raise BadRecord(\"no such kind\")", "raise BadRecord(\"cut short\")")
+fault("calls: a length over 8,193 is told before a room over 8,192", "calls",
+      "programs", "    if room_length > MOST_ROOM:\n",
+      "    judge_length(length)\n    if room_length > MOST_ROOM:\n")
+fault("calls: a length over 8,193 is told as cut short", "calls", "programs",
+      "raise BadRecord(\"a length over 8193\")", "raise BadRecord(\"cut short\")")
+fault("calls: a room over 8,192 is told as a length", "calls", "programs",
+      "raise BadRecord(\"a room over 8192\")",
+      "raise BadRecord(\"a length over 8193\")")
+fault("calls: a list cut short is told before a room over 8,192", "calls",
+      "programs", "    if room_length > MOST_ROOM:\n",
+      "    cut(data, place + 5, min(length, MOST_LENGTH))\n"
+      "    if room_length > MOST_ROOM:\n")
+fault("calls: a room over 8,192 is told before the head is whole", "calls",
+      "programs", "    head = cut(data, place, 5)\n    case",
+      "    if low_first(data[place + 1:place + 3]) > MOST_ROOM:\n"
+      "        raise BadRecord(\"a room over 8192\")\n"
+      "    head = cut(data, place, 5)\n    case")
+fault("calls: a refusal has status 1", "calls E, calls P", "programs",
+      "        line = \"refused %d %d %s\\n\" % (answer.number, answer.beside, shown)\n",
+      "        raise BadRecord(\"refused\")\n")
 fault("calls: a record cut short is filled", "calls", "programs",
-      "    if place + length > len(data):\n        raise BadRecord()\n"
+      "    if place + length > len(data):\n        raise BadRecord(\"cut short\")\n"
       "    return data[place:place + length]",
       "    return (data[place:place + length] + bytes(length))[:length]")
 fault("calls M: the number is that of the byte without bit 7", "calls M", "programs",
@@ -516,6 +576,60 @@ fault("calls R: flags are whole bytes", "calls R", "programs",
 fault("calls R: the words in the other order", "calls R", "programs",
       "oldest, middle, newest = fields[4], fields[5], fields[6]",
       "oldest, middle, newest = fields[6], fields[5], fields[4]")
+
+# --- The programs: what is told, and the status ---
+
+ALL = "encode, print, send, receive, hear, steps, calls"
+TELLING = "encode, print, send, receive, calls"
+
+fault("the program's name is missing", ALL, "programs",
+      "return (\"%s: %s\\n\" % (name, told))", "return (\"%s\\n\" % told)")
+fault("every program is named telex", ALL, "programs",
+      "return (\"%s: %s\\n\" % (name, told))", "return (\"telex: %s\\n\" % told)")
+fault("a line on standard error is not ended", ALL, "programs",
+      "return (\"%s: %s\\n\" % (name, told))", "return (\"%s: %s\" % (name, told))")
+fault("the status is 0 where something is told", TELLING, "programs",
+      "return Answer(output, error_line(name, told), TOLD)",
+      "return Answer(output, error_line(name, told), DONE)")
+fault("the status is 2 where something is told", TELLING, "programs",
+      "return Answer(output, error_line(name, told), TOLD)",
+      "return Answer(output, error_line(name, told), NOT_RUN)")
+fault("the status is 1 where nothing is told", ALL, "programs",
+      "return Answer(output, b\"\", DONE)", "return Answer(output, b\"\", TOLD)")
+fault("words handed to a program are not looked at", ALL, "programs",
+      "    if len(words) > 0:\n", "    if False:\n")
+fault("an empty word is none", ALL, "programs",
+      "    if len(words) > 0:\n", "    if any(words):\n")
+fault("only one word is looked for", ALL, "programs",
+      "    if len(words) > 0:\n", "    if len(words) == 1:\n")
+fault("usage has status 1", ALL, "programs",
+      "error_line(name, usage), NOT_RUN", "error_line(name, usage), TOLD")
+fault("usage is told on standard output", ALL, "programs",
+      "return Answer(b\"\", error_line(name, usage), NOT_RUN)",
+      "return Answer(error_line(name, usage), b\"\", NOT_RUN)")
+fault("usage is told behind the answer", "encode, print, send, receive, hear, steps, calls M",
+      "programs", "return Answer(b\"\", error_line(name, usage), NOT_RUN)",
+      "return Answer(PROGRAMS[name](data)[0], error_line(name, usage), NOT_RUN)")
+fault("a refusal is told without its words", "encode, print, send", "programs",
+      "    return \"refused %d %d: %s\" % (\n        refusal.number, refusal.beside,\n"
+      "        meanings[refusal.number].format(refusal.beside))",
+      "    return \"refused %d %d\" % (refusal.number, refusal.beside)")
+fault("the index in the words is counted from 1", "encode, print, send", "programs",
+      ".format(refusal.beside)", ".format(refusal.beside + 1)")
+fault("encode: the words of 5 and 1 are changed round", "encode", "programs",
+      "{5: OVER_CHARACTERS, 1: NO_SIGNAL}", "{1: OVER_CHARACTERS, 5: NO_SIGNAL}")
+fault("print: refusal 3 in the words of send", "print", "programs",
+      "{7: OVER_SIGNALS, 3: NOT_PRINTED}", "{7: OVER_SIGNALS, 3: NOT_TRAFFIC}")
+fault("send: refusal 3 in the words of print", "send", "programs",
+      "{7: OVER_SIGNALS, 3: NOT_TRAFFIC}", "{7: OVER_SIGNALS, 3: NOT_PRINTED}")
+fault("print and send: refusal 7 in the words of encode", "print, send",
+      "programs", "OVER_SIGNALS = \"over 8192 signals\"",
+      "OVER_SIGNALS = \"over 4096 characters\"")
+fault("steps: a refusal ends the program", "steps", "programs",
+      "        lines.append(step_line(mode_a.step(station, burst, offer)))\n",
+      "        lines.append(step_line(mode_a.step(station, burst, offer)))\n"
+      "        if lines[-1].startswith(\"refused\"):\n"
+      "            return \"\".join(lines).encode(\"ascii\"), \"refused\"\n")
 
 
 # --- Loading ---
@@ -535,7 +649,7 @@ COMPILED = {module: compile(source, module + ".py", "exec")
 
 
 def programs_with(one):
-    """PROGRAMS of a second program with one fault; of none where it is None."""
+    """`run` of a second program with one fault; of none where it is None."""
     compiled = dict(COMPILED)
     if one is not None:
         source = SOURCES[one.module]
@@ -550,7 +664,7 @@ def programs_with(one):
             module = types.ModuleType(name)
             sys.modules[name] = module
             exec(compiled[name], module.__dict__)
-        return sys.modules["programs"].PROGRAMS
+        return sys.modules["programs"].run
     finally:
         for name, module in kept.items():
             if module is None:
@@ -573,12 +687,12 @@ def steps_pieces(data):
 
 def calls_by_kind(all_data):
     """The records of a kind, short ones first, in pieces: from "calls E" to
-    pieces.  Under "calls" the inputs as they are, short ones first."""
+    pieces.  Under "calls" the inputs as they are."""
     records = {kind: [] for kind in inputs.KINDS.decode()}
     for data in all_data:
         for first, behind in inputs.call_records(data):
             records[chr(data[first])].append(data[first:behind])
-    pieces = {"calls": sorted(all_data, key=len)}
+    pieces = {"calls": all_data}
     for kind, found in records.items():
         found.sort(key=len)
         pieces["calls " + kind] = [
@@ -587,14 +701,18 @@ def calls_by_kind(all_data):
     return pieces
 
 
-def pieces_of(name, all_data):
-    """From teller to the pieces it is given."""
+def pieces_of(name, all_cases):
+    """From teller to the pieces it is given: words and input of each."""
+    all_data = sorted((case.data for case in all_cases if not case.words), key=len)
     if name == "calls":
-        return calls_by_kind(all_data)
-    if name == "steps":
-        return {name: [piece for data in sorted(all_data, key=len)
-                       for piece in steps_pieces(data)]}
-    return {name: sorted(all_data, key=len)}
+        pieces = calls_by_kind(all_data)
+    elif name == "steps":
+        pieces = {name: [piece for data in all_data for piece in steps_pieces(data)]}
+    else:
+        pieces = {name: all_data}
+    usages = [(case.words, case.data) for case in all_cases if case.words]
+    return {teller: usages + [((), data) for data in found]
+            for teller, found in pieces.items()}
 
 
 SHORT_ONES_FIRST = 40
@@ -622,10 +740,10 @@ class Trial:
     """The pieces, and the unfaulted second program's answers to those that have
     been needed."""
 
-    def __init__(self, inputs_for):
+    def __init__(self, cases_for):
         self.pieces = {}
         for name in inputs.NAMES:
-            self.pieces.update(pieces_of(name, inputs_for(name)))
+            self.pieces.update(pieces_of(name, cases_for(name)))
         self.answers = {}
         # From teller to the pieces by which a fault was told: they are tried
         # first for the next one.
@@ -633,21 +751,30 @@ class Trial:
 
     def answer(self, teller, index):
         if (teller, index) not in self.answers:
-            program = PROGRAMS[teller.split()[0]]
-            self.answers[teller, index] = program(self.pieces[teller][index])
+            self.answers[teller, index] = programs.run(
+                teller.split()[0], *self.pieces[teller][index])
         return self.answers[teller, index]
 
     def tells(self, faulty, teller):
-        """Whether some piece has another answer from the faulty program."""
-        program = faulty[teller.split()[0]]
+        """Whether some piece has another answer from the faulty program.  Where
+        the program ends by itself, that is none."""
+        name = teller.split()[0]
         pieces = self.pieces[teller]
         told = self.told[teller]
+        trouble = None
         for index in told + order_of(len(pieces)):
-            if program(pieces[index]) != self.answer(teller, index):
+            try:
+                given = faulty(name, *pieces[index])
+            except Exception as ended:
+                trouble = ended
+                continue
+            if given != self.answer(teller, index):
                 if index not in told:
                     told.append(index)
                     told.sort()
                 return True
+        if trouble is not None:
+            raise trouble
         return False
 
     def try_fault(self, one):
@@ -657,7 +784,6 @@ class Trial:
             return ["FAULT NOT TOLD by the inputs of %s: %s" % (teller, one.about)
                     for teller in one.tellers if not self.tells(faulty, teller)]
         except Exception as trouble:
-            # A program that ends by itself is no wrong answer.
             return ["BAD FAULT: %s: %s: %s"
                     % (one.about, type(trouble).__name__, trouble)]
 
@@ -667,7 +793,7 @@ def main(arguments):
         for one in FAULTS:
             print("%s (%s)" % (one.about, ", ".join(one.tellers)))
         return 0
-    trial = Trial(inputs.inputs_for)
+    trial = Trial(lambda name: inputs.cases(name, inputs.GATE_SEED))
     passed = failed = 0
     for one in FAULTS:
         lines = trial.try_fault(one)

@@ -1,10 +1,12 @@
 """Inputs for second/compare: valid, damaged and hostile, long and short.
 
     inputs_for(NAME, seed)   the inputs of a program as bytes, for any caller
-    cases(NAME, seed)        the same with what each one tries
+    cases(NAME, seed)        the same with what each one tries, and runs with
+                             words handed to the program
+    CONVERSATIONS[NAME]      what is written piece by piece, each piece answered
     NAMES, GATE_SEED         the programs, and the seed of the gate
 
-Both give the same list each time they are asked.
+Both functions give the same list each time they are asked.
 """
 
 import random
@@ -21,8 +23,12 @@ from station import (ASKING, ENDING, LOST, OPENING, RECEIVING, SENDING, STANDBY,
                      TURNING)
 
 # about: what the input tries, for the report of a difference.
-# slowly: written to the program a byte at a time, so that it meets short reads.
-Case = namedtuple("Case", "about data slowly")
+# fed: how the program gets it.  A file gives it in whole blocks; bytes and odd
+# pieces written to a pipe give it short reads.
+# words: what is handed to the program behind its name.
+Case = namedtuple("Case", "about data fed words")
+
+AT_ONCE, FROM_A_FILE, BY_BYTES, IN_PIECES = range(4)
 
 GATE_SEED = 625
 
@@ -47,15 +53,46 @@ def cases(name, seed):
 
 def inputs_for(name, seed=GATE_SEED):
     """The inputs of one program, each all of its standard input."""
-    return [case.data for case in cases(name, seed)]
+    return [case.data for case in cases(name, seed) if not case.words]
 
 
 def slowly(about, data):
-    return Case(about + ", a byte at a time", data, True)
+    return Case(about + ", a byte at a time", data, BY_BYTES, ())
+
+
+def in_pieces(about, data):
+    return Case(about + ", in odd pieces", bytes(data), IN_PIECES, ())
+
+
+def from_file(about, data):
+    return Case(about + ", from a file", bytes(data), FROM_A_FILE, ())
 
 
 def quickly(about, data):
-    return Case(about, bytes(data), False)
+    return Case(about, bytes(data), AT_ONCE, ())
+
+
+def with_words(data):
+    """Words handed to a program that takes none.  The input would have an
+    answer of its own; a file shows whether any of it is read."""
+    return [Case("words %r" % (words,), data, FROM_A_FILE, words)
+            for words in (("--help",), ("",), ("71", "86"))]
+
+
+# --- Around a block ---
+
+# A program reads up to so much at a time, and writes by the block too.
+BLOCK = 4096
+OUTPUT_SIZES = (BLOCK - 1, BLOCK, BLOCK + 1, 2 * BLOCK)
+
+
+def made_up(size, small):
+    """How many lines or words of `small` bytes, and how many of one byte more,
+    come to `size` together."""
+    number = size // small
+    more = size - number * small
+    assert more <= number
+    return number - more, more
 
 
 # --- Texts ---
@@ -116,12 +153,23 @@ def written(draw, words):
 # Runs that are no number.  Among them values that come out small when cut to
 # 8, 16, 32 or 64 bits.
 FAULTY_RUNS = [
-    b"256", b"260", b"300", b"999", b"1000", b"00256", b"65536", b"65607",
-    b"4294967296", b"4294967367", b"18446744073709551616",
-    b"18446744073709551687", b"99999999999999999999999999", b"-1", b"+1",
-    b"1.0", b"0x47", b"71,", b",71", b"7a", b"a7", b"x", b"\x00", b"71\x00",
-    b"\xff", b"\x0b", b"71\x0c72", b"\xd9\xa7", b"/", b":", b"7/", b"7:",
-    b"256x", b"x256",
+    b"256", b"300", b"1000", b"00000256", b"65536", b"65607", b"4294967296",
+    b"4294967367", b"18446744073709551616", b"18446744073709551687",
+    b"99999999999999999999999999", b"1.0", b"0x47", b"71,", b",71", b"3x", b"x",
+    b"\x00", b"71\x00", b"\xff", b"\x0b", b"71\x0c72", b"\xd9\xa7", b"/", b":",
+    b"7/", b"7:",
+    # A sign; a byte that is none before, behind and between digits that come to
+    # more than 255, or would without it; 255 and 256 behind zeros.
+    b"-1", b"+300", b"300-", b"256x", b"x300", b"3x999", b"25x6", b"000255x",
+    b"000256x", b"256\x00", b"\x00256", b"25\xb2",
+]
+
+# Each reason first, behind words, behind zeros, and with more behind it; and
+# numbers that look like it.
+FAULTY_LISTS = [
+    b"300", b"3x", b" \n300 71", b"\t3x 71", b"71 86 300", b"71 86 3x",
+    b"71 0000300 86", b"71 00003x 86", b"255 256", b"25 6x", b"0000255",
+    b"000 0000000255 00000256",
 ]
 
 
@@ -130,6 +178,36 @@ def with_run(draw, words, index, run):
     runs = [b"%d" % word for word in words]
     runs.insert(index, run)
     return draw.choice((b" ", b"\n", b"\r\n", b" \t")).join(runs)
+
+
+def in_threes(words):
+    """The words in three digits each, so that they stand every four bytes: a
+    number, or the white space behind it, is at each border of blocks."""
+    return b"".join(b"%03d " % word for word in words)
+
+
+def border_cases(make):
+    """For print, send and receive: numbers and faults that lie across the
+    borders of blocks, begin there or end there; inputs that end there."""
+    words = in_threes(make(2100))
+    out = []
+    for before in range(4):
+        out.append(from_file("numbers %d from the border" % before,
+                             b" " * before + words))
+    for first in (BLOCK - 2, BLOCK - 1, BLOCK, 2 * BLOCK - 1):
+        good = (words[:first // 4 * 4] + b"   ")[:first]
+        out.append(from_file("over 255 from %d on" % first, good + b"256 71"))
+        out.append(from_file("no digit from %d on" % first, good + b"71x 71"))
+    for size in (BLOCK - 1, BLOCK, BLOCK + 1, 2 * BLOCK):
+        out.append(from_file("ends at %d" % size,
+                             (b" " * 4 + words)[(3 - size) % 4:][:size]))
+    for size in (BLOCK, 2 * BLOCK + 1):
+        out.append(from_file("%d of white space" % size,
+                             (b" \n" * size)[:size]))
+    out.append(from_file("zeros across the border", b"0" * BLOCK + b"71"))
+    out.append(in_pieces("words", words[:900]))
+    out.append(in_pieces("words and a fault", words[:900] + b"2x"))
+    return out
 
 
 # --- encode ---
@@ -141,7 +219,12 @@ def encode_cases(draw):
            quickly("all characters", bytes(CHARACTERS)),
            quickly("characters and a small letter", b"AB1a"),
            slowly("a letter", letter(draw, 120)),
-           slowly("a refused letter", letter(draw, 60) + b"#" + letter(draw, 60))]
+           slowly("a refused letter", letter(draw, 60) + b"#" + letter(draw, 60)),
+           in_pieces("a letter", letter(draw, 3000))]
+    out.extend(with_words(b"A1"))
+    for size in OUTPUT_SIZES:
+        two, three = made_up(size, 3)
+        out.append(from_file("%d bytes written" % size, b"A" * two + b"L" * three))
     for length in (1, 15, 16, 17, 31, 32, 33, 4095, 4096):
         out.append(quickly("letter of %d" % length, letter(draw, length)))
         out.append(quickly("characters, %d" % length, characters(draw, length)))
@@ -207,7 +290,7 @@ def limit_cases(draw, make):
 
 def fault_cases(draw, make):
     """Faulty runs first, last, between, after a refusable word."""
-    out = []
+    out = [quickly("list %r" % data, data) for data in FAULTY_LISTS]
     for run in FAULTY_RUNS:
         length = draw.choice((0, 1, 3, 20, 200))
         words = make(length)
@@ -234,9 +317,15 @@ def print_cases(draw):
            quickly("all intact", plain(INTACT)),
            slowly("signals", written(draw, make(40))),
            slowly("signals and a fault", plain(make(30)) + b"71 7x 71")]
+    out.extend(with_words(b"71 86"))
+    for size in OUTPUT_SIZES:
+        out.append(from_file("%d bytes written" % size,
+                             plain([FIGURES] + [71] * (size - 1) + [86])
+                             if size < 2 * BLOCK else plain([71] * size)))
+    out.extend(border_cases(make))
     out.extend(fault_cases(draw, make))
     out.extend(limit_cases(draw, make))
-    while len(out) < 120:
+    for _ in range(20):
         length = draw.choice((draw.randrange(20), draw.randrange(300),
                               draw.randrange(3000)))
         words = make(length)
@@ -264,6 +353,16 @@ def sides(number):
     return 96 * number - 2, 96 * number - 1
 
 
+def text_sent_in(size):
+    """A text of which the slots, written as words, come to `size` bytes, which
+    has to be even: each signal is sent twice."""
+    length = size // 6
+    while len(plain(broadcast.slots([86] * length))) > size:
+        length -= 1
+    more = (size - len(plain(broadcast.slots([86] * length)))) // 2
+    return [101] * more + [86] * (length - more)
+
+
 def send_cases(draw):
     def make(length):
         return draw.choices(TRAFFIC, k=length)
@@ -272,6 +371,10 @@ def send_cases(draw):
            quickly("E", b"86"), quickly("all traffic", plain(TRAFFIC)),
            slowly("text", written(draw, make(30))),
            slowly("text and a fault", plain(make(20)) + b"71 256 71")]
+    out.extend(with_words(b"86"))
+    for size in (BLOCK - 2, BLOCK, BLOCK + 2, 2 * BLOCK):
+        out.append(from_file("%d bytes written" % size, plain(text_sent_in(size))))
+    out.extend(border_cases(make))
     lengths = [1, 2, 93, 96, 97, 189, 192, 193]
     for number in SEND_BREAKS:
         lengths.extend(sides(number))
@@ -282,7 +385,7 @@ def send_cases(draw):
     out.append(quickly("8,190 signals", plain(make(8190))))
     out.extend(fault_cases(draw, make))
     out.extend(limit_cases(draw, make))
-    while len(out) < 200:
+    for _ in range(20):
         length = draw.choice((draw.randrange(10), draw.randrange(100),
                               draw.randrange(400)))
         words = make(length)
@@ -370,6 +473,14 @@ def receive_cases(draw):
            quickly("text E", plain(text_of_one)),
            quickly("no text", plain(broadcast.slots([]))),
            slowly("text E", plain(text_of_one))]
+    out.extend(with_words(plain(text_of_one)))
+    for size in OUTPUT_SIZES:
+        # A return and a line feed are printed before the text.
+        two, three = made_up(size - len("120 108 "), 3)
+        out.append(from_file("%d bytes written" % size, plain(
+            broadcast.slots([86] * two + [101] * three))))
+    out.extend(border_cases(
+        lambda length: broadcast.slots(draw.choices(TRAFFIC, k=length))[:length]))
     # Every slot of a short bulletin damaged, and listened to from.  The whole
     # bulletin between lets the receiver begin anew.
     for start in range(0, len(text_of_one), 8):
@@ -557,11 +668,29 @@ def joined(bursts):
     return bytes(word for burst in bursts for word in burst)
 
 
+def heard_in(size):
+    """Blocks of which the lines come to `size` bytes: two bytes printed by each,
+    and three by as many as are needed."""
+    lines = programs.hear(joined([(71, 71, BETA)] * (size // 10)))[0].splitlines(True)
+    while sum(map(len, lines)) > size or (size - sum(map(len, lines))) % 2 == 1:
+        lines.pop()
+    more = (size - sum(map(len, lines))) // 2
+    # The first line is the header.
+    return joined([(71, 71, 71)] * more + [(71, 71, BETA)] * (len(lines) - 1 - more))
+
+
 def hear_cases(draw):
     example = bytes([116, 86, 51, 86, 0, 86, 54, 99, 114, 51, 15, 51])
     out = [quickly("01's example", example), quickly("empty", b""),
            slowly("01's example", example),
-           slowly("a circuit", joined(led_circuit(draw, 40)))]
+           slowly("a circuit", joined(led_circuit(draw, 40))),
+           in_pieces("a circuit", joined(led_circuit(draw, 400)))]
+    out.extend(with_words(example))
+    for size in OUTPUT_SIZES:
+        out.append(from_file("%d bytes written" % size, heard_in(size)))
+    circuit = joined(led_circuit(draw, 4000))
+    for size in (BLOCK - 1, BLOCK, BLOCK + 1, 2 * BLOCK, 2 * BLOCK + 1):
+        out.append(from_file("%d bytes heard" % size, circuit[:size]))
     for length in range(1, 12):
         out.append(quickly("first %d bytes of 01's example" % length,
                            example[:length]))
@@ -579,6 +708,7 @@ def hear_cases(draw):
     for _ in range(2):
         out.append(quickly("alphas at Receiving", joined(
             left_circuit(draw, RECEIVING, (ALPHA, ALPHA, ALPHA)))))
+    out.append(quickly("32 bad bursts and nothing behind them", bytes(96)))
     # The time-out to the burst, at each place that has one.
     for place in (SENDING, TURNING, OPENING, RECEIVING, ASKING):
         for bad in (30, 31, 32, 33):
@@ -839,9 +969,24 @@ def steps_records(draw):
         yield bytes(any_bytes)
 
 
+def stepped_in(size):
+    """Records of which the lines come to `size` bytes."""
+    accepted = bytes([1, 4, 1, 0, 0, 0, 0, 0, 0, 0, 71, 71, 71] + [0] * 4)
+    longer = with_byte(accepted, 10, 116)
+    few, more = made_up(size, len(programs.steps(accepted)[0]))
+    return accepted * few + longer * more
+
+
 def steps_cases(draw):
     records = list(steps_records(draw))
-    out = [quickly("empty", b""), slowly("8 records", b"".join(records[:8]))]
+    out = [quickly("empty", b""), slowly("8 records", b"".join(records[:8])),
+           in_pieces("200 records", b"".join(records[:200]))]
+    out.extend(with_words(records[0]))
+    for size in OUTPUT_SIZES:
+        out.append(from_file("%d bytes written" % size, stepped_in(size)))
+    for size in (BLOCK - 1, BLOCK, BLOCK + 1, 2 * BLOCK):
+        out.append(from_file("%d bytes of records" % size,
+                             b"".join(records)[:size]))
     for length in (1, 16, 18, 33, 34, 35):
         out.append(quickly("cut to %d bytes" % length,
                            b"".join(records[:3])[:length]))
@@ -1107,8 +1252,17 @@ def hostile_tails(draw):
         yield "kind %d" % byte, bytes([byte]) + text_record(b"E", 0, 9, b"AB")
     heads = [b"E", b"P"]
     for head in heads:
-        for room in (8193, 8194, 65535):
+        for room in (8193, 65535):
             yield "room %d" % room, text_record(head, 0, room, b"") + b"E"
+        # Both over; the room over and the list cut short, not there, or too
+        # short for its length to be told.
+        over = head + b"\0" + low_first(8193, 2)
+        yield "room and length over", over + low_first(8194, 2) + b"A"
+        yield "room over, list cut", over + low_first(2, 2) + b"A"
+        yield "room over, no list", over + low_first(2, 2)
+        yield "room over, length cut", over + b"\2"
+        yield "room over, no length", over
+        yield "length over, no list", head + b"\0" + low_first(5, 2) + b"\2\x20"
         for length in (8194, 65535):
             whole = head + b"\0" + low_first(5, 2) + low_first(length, 2)
             yield "length %d" % length, whole + bytes([71]) * length
@@ -1148,6 +1302,30 @@ def call_records(data):
         first = behind
 
 
+def calls_at_borders():
+    """Records across the borders of blocks, each border another byte of the
+    record; bad records that begin or are cut there."""
+    out = []
+    for whole in (text_record(b"E", 0, 5, b"A1A"), slot_record(40, [71, 86])):
+        data = b""
+        for number in range(1, len(whole) + 2):
+            first = BLOCK * number - number
+            while len(data) % 2 != first % 2:
+                data += text_record(b"P", 1, 0, bytes([71]))
+            data += b"MV" * ((first - len(data)) // 2) + whole
+        out.append(from_file("records across borders", data))
+    up_to = b"MV" * (BLOCK // 2)
+    out.append(from_file("a bad kind at the border", up_to + b"?"))
+    out.append(from_file("a bad kind before it", up_to[:-2] + b"M\0?"))
+    for tail in (b"E\0", b"E\0\5\0\3\0", text_record(b"E", 0, 5, b"AA")):
+        # The input ends at the border: in the head, before the list, behind it.
+        out.append(from_file("ends at the border",
+                             up_to[:BLOCK - len(tail)] + tail))
+    out.append(from_file("cut in a list across the border",
+                         up_to[2:] + text_record(b"E", 0, 5, b"A1A")[:-1]))
+    return out
+
+
 def calls_cases(draw):
     records = (list(encode_records(draw)) + list(print_records(draw))
                + list(slot_records(draw)) + list(meaning_records())
@@ -1155,7 +1333,14 @@ def calls_cases(draw):
     draw.shuffle(records)
     short = [one for one in records if len(one) < 40]
     out = [quickly("empty", b""), slowly("12 records", b"".join(short[:12])),
-           slowly("8 records and a bad one", b"".join(short[12:20]) + b"?")]
+           slowly("8 records and a bad one", b"".join(short[12:20]) + b"?"),
+           in_pieces("200 records", b"".join(short[:200]))]
+    out.extend(with_words(b"M\x47"))
+    for size in OUTPUT_SIZES:
+        # The lines `5 1` and `12 1`.
+        few, more = made_up(size, 4)
+        out.append(from_file("%d bytes written" % size, b"MV" * few + b"Me" * more))
+    out.extend(calls_at_borders())
     for start in range(0, len(records), CALLS_IN_A_CASE):
         out.append(quickly("records from %d on" % start,
                            b"".join(records[start:start + CALLS_IN_A_CASE])))
@@ -1176,3 +1361,35 @@ MAKERS = {
 }
 
 NAMES = tuple(MAKERS)
+
+
+# --- Conversations ---
+
+# Each is a list of pieces.  When a piece is written, the program has to answer
+# what it can before the next one comes; `steps` and `calls` in whole records,
+# `hear` in whole bursts, `receive` in words with white space behind them.
+# docs/FORMATS.md: "always before it reads again, so that whoever feeds it a
+# burst or a word sees the answer".
+# The last piece of a list that ends in a fault ends the program, while its input
+# is still open.
+
+def spoken():
+    heard = broadcast.slots([71, 101, 86, 116])
+    # The words up to the first two that are printed, then one by one.
+    begun = 40
+    return [plain(heard[:begun])] + [b"%d " % word for word in heard[begun:44]]
+
+
+STEP_RECORD = bytes([1, 4, 1, 0, 0, 0, 0, 31, 0, 0, 116, 86, 51, 0, 0, 0, 0])
+
+CONVERSATIONS = {
+    "hear": [[bytes([116, 86, 51]), bytes([86, 0, 86]), bytes([54, 99]),
+              bytes([114]), bytes([51, 15, 51, CS1, 0, 0])]],
+    "steps": [[STEP_RECORD, STEP_RECORD + STEP_RECORD[:5], STEP_RECORD[5:]]],
+    "calls": [[b"MV", text_record(b"E", 0, 4, b"A1"), slot_record(36, [86]),
+               b"R" + bytes([0, 3, 1, 0, 0, 0, 0, 0, 0, 15]), b"M", b"eMA", b"?"]],
+    "receive": [spoken(), spoken() + [b"256 "]],
+    "encode": [[b"A" * (text.MOST_CHARACTERS + 1)]],
+    "print": [[b"71 ", b"7x "], [b"71 " * (text.MOST_SIGNALS + 1)]],
+    "send": [[b"71 ", b"256 "]],
+}

@@ -1,8 +1,11 @@
 """The programs: what goes in and what comes out (docs/FORMATS.md).
 
 Each is a function from all of standard input to what it writes on standard
-output and on standard error.  PROGRAMS at the end names them.
+output and what it tells, None where it tells nothing.  PROGRAMS at the end
+names them; `run` gives the answer of a whole run.
 """
+
+from collections import namedtuple
 
 import broadcast
 import station as mode_a
@@ -17,18 +20,20 @@ WORDS_ON_A_LINE = 16
 # --- Words: decimal numbers 0 to 255 ---
 
 class NotANumber(Exception):
-    """Carries the place of the faulty run's first byte."""
+    """Carries the place of the faulty run's first byte, and what is wrong."""
 
-    def __init__(self, place):
-        Exception.__init__(self, place)
+    def __init__(self, place, reason):
+        Exception.__init__(self, place, reason)
         self.place = place
+        self.reason = reason
 
 
 def read_words(data, most=None):
     """Yields the numbers of the input, at most `most` of them: what stands
     behind the last one is not looked at.  A number is a run of bytes up to
     white space or the end; the run is judged whole, so "12x" is one fault.
-    Leading zeros are allowed and the length is not bounded."""
+    Leading zeros are allowed and the length is not bounded.  What comes first
+    in a faulty run is what is told: "256x" is over 255, "25x6" is not."""
     place = 0
     found = 0
     while most is None or found < most:
@@ -37,18 +42,21 @@ def read_words(data, most=None):
         if place == len(data):
             return
         first = place
+        # The value of the digits before a byte that is none.
         value = 0
-        good = True
+        all_digits = True
         while place < len(data) and data[place] not in WHITE_SPACE:
             byte = data[place]
-            if 48 <= byte <= 57:
+            if not 48 <= byte <= 57:
+                all_digits = False
+            elif all_digits:
                 # 256 stands for every value over 255.
                 value = min(value * 10 + byte - 48, 256)
-            else:
-                good = False
             place = place + 1
-        if not good or value > 255:
-            raise NotANumber(first)
+        if value > 255:
+            raise NotANumber(first, "over 255")
+        if not all_digits:
+            raise NotANumber(first, "a byte that is no digit")
         found = found + 1
         yield value
 
@@ -62,16 +70,25 @@ def write_words(words):
     return "".join(lines).encode("ascii")
 
 
-def error_line(*fields):
-    return (" ".join(str(field) for field in fields) + "\n").encode("ascii")
+# --- What is told ---
+
+def refused(refusal, meanings):
+    """`meanings`: from 01's number to what it means to this program, with the
+    value beside it where the text has a place for it."""
+    return "refused %d %d: %s" % (
+        refusal.number, refusal.beside,
+        meanings[refusal.number].format(refusal.beside))
 
 
-def refused_line(refusal):
-    return error_line("refused", refusal.number, refusal.beside)
+OVER_CHARACTERS = "over 4096 characters"
+OVER_SIGNALS = "over 8192 signals"
+NO_SIGNAL = "the character at index {} has no signal"
+NOT_PRINTED = "the word at index {} is neither traffic nor the error mark"
+NOT_TRAFFIC = "the word at index {} is not traffic"
 
 
-def not_a_number_line(fault):
-    return error_line("not a number at", fault.place)
+def not_a_number(fault):
+    return "not a number at %d: %s" % (fault.place, fault.reason)
 
 
 # --- hear (paper 01, worked examples) ---
@@ -106,7 +123,7 @@ def hear(data):
         printed = room[:written.length].hex().upper() or "none"
         lines.append("%d %s %s\n" % (start // 3 + 1,
                                      name_of_burst(answer.burst), printed))
-    return "".join(lines).encode("ascii"), b""
+    return "".join(lines).encode("ascii"), None
 
 
 # --- encode, print, send: one call each ---
@@ -116,38 +133,38 @@ def encode(data):
     room = bytearray(text.MOST_SIGNALS)
     answer = text.encode("letters", characters, room)
     if isinstance(answer, Refused):
-        return b"", refused_line(answer)
-    return write_words(room[:answer.length]), b""
+        return b"", refused(answer, {5: OVER_CHARACTERS, 1: NO_SIGNAL})
+    return write_words(room[:answer.length]), None
 
 
 def print_(data):
     try:
         signals = list(read_words(data, text.MOST_SIGNALS + 1))
     except NotANumber as fault:
-        return b"", not_a_number_line(fault)
+        return b"", not_a_number(fault)
     room = bytearray(text.MOST_SIGNALS)
     answer = text.print_signals("letters", signals, room)
     if isinstance(answer, Refused):
-        return b"", refused_line(answer)
-    return bytes(room[:answer.length]), b""
+        return b"", refused(answer, {7: OVER_SIGNALS, 3: NOT_PRINTED})
+    return bytes(room[:answer.length]), None
 
 
 def send(data):
     try:
         signals = list(read_words(data, broadcast.MOST_SIGNALS + 1))
     except NotANumber as fault:
-        return b"", not_a_number_line(fault)
+        return b"", not_a_number(fault)
     refusal = broadcast.text_refusal(signals)
     if refusal is not None:
-        return b"", refused_line(refusal)
-    return write_words(broadcast.slots(signals)), b""
+        return b"", refused(refusal, {7: OVER_SIGNALS, 3: NOT_TRAFFIC})
+    return write_words(broadcast.slots(signals)), None
 
 
 # --- receive: a stream ---
 
 def receive(data):
     printed = []
-    error = b""
+    told = None
     receiver = broadcast.fresh_receiver()
     try:
         for word in read_words(data):
@@ -156,8 +173,8 @@ def receive(data):
                 printed.append(signal)
     except NotANumber as fault:
         # What was printed before it stays, the line begun is ended.
-        error = not_a_number_line(fault)
-    return write_words(printed), error
+        told = not_a_number(fault)
+    return write_words(printed), told
 
 
 # --- steps: records of 17 bytes, one step of a station written out ---
@@ -211,7 +228,7 @@ def steps(data):
     for start in range(0, len(data) - RECORD + 1, RECORD):
         station, burst, offer = read_step(data[start:start + RECORD])
         lines.append(step_line(mode_a.step(station, burst, offer)))
-    return "".join(lines).encode("ascii"), b""
+    return "".join(lines).encode("ascii"), None
 
 
 # --- calls: one public call a record ---
@@ -222,13 +239,18 @@ MOST_LENGTH = 8193
 
 
 class BadRecord(Exception):
-    """Another kind, a room or length over the most, or a record cut short."""
+    """Carries what is wrong with it."""
 
 
 def cut(data, place, length):
     if place + length > len(data):
-        raise BadRecord()
+        raise BadRecord("cut short")
     return data[place:place + length]
+
+
+def judge_length(length):
+    if length > MOST_LENGTH:
+        raise BadRecord("a length over 8193")
 
 
 def low_first(field):
@@ -243,8 +265,9 @@ def text_call(call, data, place):
     case = case_of(head[0])
     room_length = low_first(head[1:3])
     length = low_first(head[3:5])
-    if room_length > MOST_ROOM or length > MOST_LENGTH:
-        raise BadRecord()
+    if room_length > MOST_ROOM:
+        raise BadRecord("a room over 8192")
+    judge_length(length)
     body = cut(data, place + 5, length)
     room = bytearray([FILLED_WITH]) * room_length
     answer = call(case, body, room)
@@ -261,8 +284,7 @@ def slot_call(data, place):
     head = cut(data, place, 6)
     number = low_first(head[0:4])
     length = low_first(head[4:6])
-    if length > MOST_LENGTH:
-        raise BadRecord()
+    judge_length(length)
     body = cut(data, place + 6, length)
     answer = broadcast.slot(body, number)
     if isinstance(answer, Refused):
@@ -330,7 +352,7 @@ def receive_call(data, place):
 
 def calls(data):
     lines = []
-    error = b""
+    told = None
     place = 0
     try:
         while place < len(data):
@@ -346,14 +368,14 @@ def calls(data):
             elif kind == b"R":
                 line, behind = receive_call(data, place + 1)
             else:
-                raise BadRecord()
+                raise BadRecord("no such kind")
             lines.append(line)
             place = behind
-    except BadRecord:
+    except BadRecord as fault:
         # The lines before it stay.  The place is that of the record's first
         # byte, whatever is wrong with it.
-        error = error_line("bad record at", place)
-    return "".join(lines).encode("ascii"), error
+        told = "bad record at %d: %s" % (place, fault)
+    return "".join(lines).encode("ascii"), told
 
 
 PROGRAMS = {
@@ -365,3 +387,27 @@ PROGRAMS = {
     "steps": steps,
     "calls": calls,
 }
+
+
+# --- A whole run ---
+
+DONE, TOLD, NOT_RUN = 0, 1, 2
+CANNOT_READ = "cannot read standard input"
+CANNOT_WRITE = "cannot write standard output"
+
+Answer = namedtuple("Answer", "output error status")
+
+
+def error_line(name, told):
+    return ("%s: %s\n" % (name, told)).encode("ascii")
+
+
+def run(name, words, data):
+    """What ./telex NAME gives, words handed to it, on that standard input."""
+    if len(words) > 0:
+        usage = "usage: ./telex %s < input" % name
+        return Answer(b"", error_line(name, usage), NOT_RUN)
+    output, told = PROGRAMS[name](data)
+    if told is None:
+        return Answer(output, b"", DONE)
+    return Answer(output, error_line(name, told), TOLD)

@@ -12,7 +12,9 @@ import importlib.machinery
 import importlib.util
 import os
 import random
+import subprocess
 import sys
+import tempfile
 import traceback
 
 sys.dont_write_bytecode = True
@@ -645,8 +647,8 @@ def hear_example():
     data = bytes([116, 86, 51, 86, 0, 86, 54, 99, 114, 51, 15, 51])
     assert programs.hear(data) == (b"step answer printed\n"
                                    b"1 CS2 5445\n2 CS2 none\n3 CS3 2B3F\n"
-                                   b"4 RQ.RQ.RQ none\n", b"")
-    assert programs.hear(b"") == (b"step answer printed\n", b"")
+                                   b"4 RQ.RQ.RQ none\n", None)
+    assert programs.hear(b"") == (b"step answer printed\n", None)
     # Shifts alone print no byte; a short last burst is filled with zeros.
     assert programs.hear(bytes([FIGURES, BLANK, BETA, A]))[0].endswith(
         b"1 CS2 none\n2 CS2 none\n")
@@ -658,40 +660,99 @@ def hear_example():
 
 
 def words_in_and_out():
-    assert programs.PROGRAMS["print"](b"") == (b"", b"")
-    assert programs.PROGRAMS["print"](b" \t\r\n071\n0000086 ") == (b"AE", b"")
-    for data, place in ((b"71 300", 3), (b"71 7a", 3), (b"-1", 0), (b" 1\x0b2", 1),
-                        (b"71\n256", 3), (b"9" * 5000, 0)):
-        assert programs.PROGRAMS["print"](data) == (
-            b"", b"not a number at %d\n" % place)
-        assert programs.PROGRAMS["send"](data)[1] == (
-            b"not a number at %d\n" % place)
-    assert programs.PROGRAMS["print"](b"0" * 5000 + b"71") == (b"A", b"")
+    print_, send = programs.print_, programs.send
+    assert print_(b"") == (b"", None)
+    assert print_(b" \t\r\n071\n0000086 ") == (b"AE", None)
+    over, no_digit = "over 255", "a byte that is no digit"
+    for data, place, reason in (
+            (b"71 300", 3, over), (b"71 7a", 3, no_digit), (b"-1", 0, no_digit),
+            (b" 1\x0b2", 1, no_digit), (b"71\n256", 3, over), (b"9" * 5000, 0, over),
+            # What comes first decides, and what is behind it does not count.
+            (b"256x", 0, over), (b"x300", 0, no_digit), (b"3x999", 0, no_digit),
+            (b"25x6", 0, no_digit), (b"71 0000256", 3, over), (b"25 6x", 3, no_digit),
+            (b"000255x", 0, no_digit), (b"+300", 0, no_digit), (b"300-", 0, over),
+            (b"\xff", 0, no_digit), (b"256\x00", 0, over), (b"\x00256", 0, no_digit)):
+        told = "not a number at %d: %s" % (place, reason)
+        assert print_(data) == (b"", told) and send(data) == (b"", told)
+    assert print_(b"0" * 5000 + b"71") == (b"A", None)
+    assert print_(b"0000255") == (b"*", None)
     # A fault comes before a refusal; behind the 8,193rd it is not looked at.
-    assert programs.PROGRAMS["print"](b"0 x")[1] == b"not a number at 2\n"
-    assert programs.PROGRAMS["print"](b"0 71")[1] == b"refused 3 0\n"
+    assert print_(b"0 x")[1] == "not a number at 2: " + no_digit
+    assert print_(b"0 71")[1] == ("refused 3 0: the word at index 0 is neither "
+                                  "traffic nor the error mark")
+    assert send(b"71 255")[1] == "refused 3 1: the word at index 1 is not traffic"
     many = b"71 " * 8192
-    assert programs.PROGRAMS["print"](many + b"x")[1] == b"not a number at 24576\n"
-    assert programs.PROGRAMS["print"](many + b"71 x")[1] == b"refused 7 8192\n"
-    assert programs.PROGRAMS["send"](many + b"71 x")[1] == b"refused 7 8192\n"
-    assert programs.encode(b"A" * 4096)[1] == b""
-    assert programs.encode(b"A" * 4096 + b"a")[1] == b"refused 5 4096\n"
+    assert print_(many + b"x")[1] == "not a number at 24576: " + no_digit
+    for call in (print_, send):
+        assert call(many + b"71 x")[1] == "refused 7 8192: over 8192 signals"
+    assert programs.encode(b"A" * 4096)[1] is None
+    assert programs.encode(b"A" * 4096 + b"a")[1] == (
+        "refused 5 4096: over 4096 characters")
+    assert programs.encode(b"A" * 4095 + b"a")[1] == (
+        "refused 1 4095: the character at index 4095 has no signal")
     assert programs.encode(b"A" * 17)[0] == b" ".join([b"71"] * 16) + b"\n71\n"
+
+
+def whole_runs():
+    """The line on standard error, and the status."""
+    assert programs.run("print", (), b"71") == (b"A", b"", 0)
+    assert programs.run("print", (), b"71 3x") == (
+        b"", b"print: not a number at 3: a byte that is no digit\n", 1)
+    assert programs.run("encode", (), b"a") == (
+        b"", b"encode: refused 1 0: the character at index 0 has no signal\n", 1)
+    assert programs.run("calls", (), b"MGE") == (
+        b"1 1\n", b"calls: bad record at 2: cut short\n", 1)
+    # A refusal that is a record's line is nothing told.
+    refused = b"E\0\0\0\1\0A"
+    assert programs.run("calls", (), refused) == (b"refused 2 1 -\n", b"", 0)
+    assert programs.run("steps", (), bytes([0, 6, 0, 0, 0, 0, 0, 99] + [0] * 9)) == (
+        b"refused 4 0\n", b"", 0)
+    for name in programs.PROGRAMS:
+        usage = b"%s: usage: ./telex %s < input\n" % (name.encode(), name.encode())
+        for words in (("x",), ("",), ("x", "y")):
+            assert programs.run(name, words, b"M") == (b"", usage, 2)
+
+
+def run_script(*words, **streams):
+    done = subprocess.run([SCRIPT, *words], stderr=subprocess.PIPE, **streams)
+    return done.stdout, done.stderr, done.returncode
+
+
+SCRIPT = os.path.join(os.path.dirname(os.path.abspath(__file__)), "telex")
+
+
+def script_gives_whole_runs():
+    assert run_script("encode", input=b"A", stdout=subprocess.PIPE) == (
+        b"71\n", b"", 0)
+    assert run_script("receive", input=b"3 300", stdout=subprocess.PIPE) == (
+        b"", b"receive: not a number at 2: over 255\n", 1)
+    with tempfile.TemporaryFile() as file:
+        file.write(b"71")
+        file.seek(0)
+        assert run_script("print", "", stdin=file, stdout=subprocess.PIPE) == (
+            b"", b"print: usage: ./telex print < input\n", 2)
+        assert os.lseek(file.fileno(), 0, os.SEEK_CUR) == 0
+    with open(os.devnull, "wb") as unreadable, open("/dev/full", "wb") as full:
+        assert run_script("hear", stdin=unreadable, stdout=subprocess.PIPE) == (
+            b"", b"hear: cannot read standard input\n", 1)
+        assert run_script("hear", input=b"", stdout=full) == (
+            None, b"hear: cannot write standard output\n", 1)
+    assert run_script("fax", input=b"")[2] == run_script(input=b"")[2] == 2
 
 
 def letter_through_all():
     letter = b"SHIP'S STORES: 12 (TWELVE) CRATES, 3/4 FULL.\r\nREPLY +?"
-    words, error = programs.encode(letter)
-    heard, error = programs.send(words)
-    prints, error = programs.receive(heard)
-    assert programs.PROGRAMS["print"](prints) == (b"\r\n" + letter, b"")
+    words, told = programs.encode(letter)
+    heard, told = programs.send(words)
+    prints, told = programs.receive(heard)
+    assert programs.print_(prints) == (b"\r\n" + letter, None)
     # What was printed before a fault stays.
     cut = heard.split(b"\n")
     cut[5] = b"x" + cut[5]
     place = len(b"\n".join(cut[:5])) + 1
-    prints, error = programs.receive(b"\n".join(cut))
+    prints, told = programs.receive(b"\n".join(cut))
     assert prints.startswith(b"120 108") and prints.endswith(b"\n")
-    assert error == b"not a number at %d\n" % place
+    assert told == "not a number at %d: a byte that is no digit" % place
 
 
 def steps_records():
@@ -702,7 +763,7 @@ def steps_records():
     assert programs.steps(accepted + lost + refused + accepted[:16]) == (
         b"receiving 2 0 0 0 0 0 letters 0 | 106 0 0 | 116 86 0 | 0\n"
         b"lost 0 0 0 0 0 0 letters 0 | 0 0 0 | 0 0 0 | 0\n"
-        b"refused 3 2\n", b"")
+        b"refused 3 2\n", None)
     sending = bytes([0, 8, 7, 71, 51, 86, 0, 5, 3, 5, 106, 1, 2, 4, 0, 0, 0])
     assert programs.steps(sending)[0] == (
         b"sending 2 51 51 51 0 0 figures 1 | 51 51 51 | 0 0 0 | 1\n")
@@ -718,14 +779,24 @@ def calls_records():
             b"S" + (36).to_bytes(4, "little") + b"\x01\x00\x56")
     lines = (b"ok 3 figures 47362EAA\nok 0 figures -\nok 2 figures 2D2AAA\n"
              b"refused 2 3 AAAA\nok 86\n")
-    assert programs.calls(good) == (lines, b"")
-    bad = b"bad record at %d\n" % len(good)
-    cut_short = (b"E", b"S\0\0\0", record(b"E", 0, 9, b"AB")[:-1])
-    for tail in cut_short:
-        assert programs.calls(good + tail) == (lines, bad)
-    for tail in (b"X", b"\0", b"e", record(b"E", 0, 8193, b""),
-                 record(b"P", 0, 8192, b"A" * 8194)):
-        assert programs.calls(good + tail + good) == (lines, bad)
+    assert programs.calls(good) == (lines, None)
+
+    def ends(tail, reason):
+        told = "bad record at %d: %s" % (len(good), reason)
+        assert programs.calls(good + tail) == (lines, told)
+
+    for tail in (b"E", b"S\0\0\0", record(b"E", 0, 9, b"AB")[:-1], b"M",
+                 # Too short for its room and its length to be told.
+                 b"E\0\1\x20\5"):
+        ends(tail, "cut short")
+    for tail in (b"X", b"\0", b"e"):
+        ends(tail + good, "no such kind")
+    for tail in (record(b"E", 0, 8193, b""), record(b"P", 0, 8193, b"A" * 8194),
+                 record(b"P", 0, 8193, b"AB")[:-1], record(b"P", 0, 8193, b"AB")[:-2]):
+        ends(tail, "a room over 8192")
+    ends(record(b"P", 0, 8192, b"A" * 8194), "a length over 8193")
+    ends(record(b"P", 0, 8192, b"A" * 8194)[:6], "a length over 8193")
+    ends(b"S\0\0\0\0\2\x20", "a length over 8193")
 
 
 def meaning_records():
@@ -744,15 +815,15 @@ def meaning_records():
         assert lines[byte] == number + " 1"
     for byte in (0, 127, 199, 255):
         assert lines[byte] == "0 0"
-    assert programs.calls(b"M") == (b"", b"bad record at 0\n")
-    assert programs.calls(b"MGM") == (b"1 1\n", b"bad record at 2\n")
+    assert programs.calls(b"M") == (b"", "bad record at 0: cut short")
+    assert programs.calls(b"MGM") == (b"1 1\n", "bad record at 2: cut short")
 
 
 def stepped(*fields):
     """The line of an `R` record with these ten bytes behind its kind."""
     assert len(fields) == 10
-    output, error = programs.calls(b"R" + bytes(fields))
-    assert error == b"" and output.endswith(b"\n")
+    output, told = programs.calls(b"R" + bytes(fields))
+    assert told is None and output.endswith(b"\n")
     return output.decode()[:-1]
 
 
@@ -823,10 +894,10 @@ def receive_records_run_on():
 def receive_records_cut():
     record = b"R" + bytes([1, 0, 0, 71, 72, 15, 1, 1, 0, 71])
     line = b"phase 0 72 15 dx 1 0 | 71\n"
-    assert programs.calls(record * 2) == (line * 2, b"")
+    assert programs.calls(record * 2) == (line * 2, None)
     for length in range(1, 11):
         assert programs.calls(record + record[:length]) == (
-            line, b"bad record at 11\n")
+            line, "bad record at 11: cut short")
 
 
 # --- second/compare ---
@@ -889,23 +960,93 @@ def compare_counts_inputs():
 
 # --- The inputs: that they hold what they are there for ---
 
-GATE_INPUTS = {}
+GATE_CASES = {}
+
+
+def gate_cases(name):
+    """The inputs of the gate, made once."""
+    if name not in GATE_CASES:
+        GATE_CASES[name] = inputs.cases(name, inputs.GATE_SEED)
+    return GATE_CASES[name]
 
 
 def gate_inputs(name):
-    """The inputs of the gate, made once."""
-    if name not in GATE_INPUTS:
-        GATE_INPUTS[name] = inputs.inputs_for(name, inputs.GATE_SEED)
-    return GATE_INPUTS[name]
+    return [case.data for case in gate_cases(name) if not case.words]
 
 
 def inputs_are_bytes():
     for name in inputs.NAMES:
-        assert all(type(data) is bytes for data in gate_inputs(name))
+        assert all(type(case.data) is bytes for case in gate_cases(name))
     for name in ("encode", "receive"):
         assert inputs.inputs_for(name) == gate_inputs(name)
-        assert [case.data for case in inputs.cases(name, 625)] == gate_inputs(name)
+        assert inputs.cases(name, 625) == gate_cases(name)
         assert inputs.inputs_for(name, 626) != gate_inputs(name)
+
+
+def inputs_at_borders():
+    """What is read and what is written ends before, at and behind the borders of
+    blocks, and is given in each way."""
+    for name in inputs.NAMES:
+        cases = gate_cases(name)
+        assert {case.fed for case in cases} == set(range(4))
+        size = {len(programs.run(name, case.words, case.data).output)
+                for case in cases if case.fed == inputs.FROM_A_FILE}
+        assert {4096, 8192} <= size and size & {4094, 4095} and size & {4097, 4098}
+    for name in ("print", "send", "receive"):
+        # A number of three digits stands before, across and behind the border.
+        found = set()
+        for data in gate_inputs(name):
+            for border in range(4096, len(data), 4096):
+                around = data[border - 3:border + 3]
+                found.add("".join("9" if 48 <= byte <= 57 else " " if byte == 32
+                                  else "x" for byte in around))
+        assert {"999 99", "99 999", "9 999 ", " 999 9"} <= found
+
+
+def inputs_tell_each_line():
+    """Each line of standard error that docs/FORMATS.md has for a program, but
+    for failed reads and writes, is one that some input gives."""
+    reasons = {
+        "encode": ["over 4096 characters", "the character at index N has no signal"],
+        "print": ["over 8192 signals", "over 255", "a byte that is no digit",
+                  "the word at index N is neither traffic nor the error mark"],
+        "send": ["over 8192 signals", "over 255", "a byte that is no digit",
+                 "the word at index N is not traffic"],
+        "receive": ["over 255", "a byte that is no digit"],
+        "calls": ["no such kind", "cut short", "a room over 8192",
+                  "a length over 8193"],
+        "hear": [], "steps": [],
+    }
+    for name, wanted in reasons.items():
+        found = {}
+        for case in gate_cases(name):
+            if (name in ("hear", "steps") or len(case.data) > 100000) and not case.words:
+                # The long ones of `calls` are records without a fault.
+                continue
+            error = programs.run(name, case.words, case.data).error.decode()
+            told = error.strip().split(": ")[-1]
+            told = " ".join("N" if name in ("encode", "print", "send")
+                            and before == "index" else word for before, word in
+                            zip([""] + told.split(" "), told.split(" ")))
+            found[told] = found.get(told, 0) + 1
+        found.pop("", None)
+        assert found.pop("./telex %s < input" % name) == 3
+        assert sorted(found) == sorted(wanted), (name, found)
+        assert all(amount >= 2 for amount in found.values())
+
+
+def conversations_are_answered():
+    assert sorted(inputs.CONVERSATIONS) == sorted(inputs.NAMES)
+    for name in ("hear", "steps", "calls", "receive"):
+        for pieces in inputs.CONVERSATIONS[name]:
+            # Something has to come for a piece, before the next one.
+            answers = [programs.run(name, (), compare.whole_part(
+                name, b"".join(pieces[:number]))).output.rstrip()
+                for number in range(len(pieces) + 1)]
+            assert sum(one != two for one, two in zip(answers, answers[1:])) >= 3
+    ends = [programs.run(name, (), b"".join(pieces)).status
+            for name in inputs.NAMES for pieces in inputs.CONVERSATIONS[name]]
+    assert ends.count(programs.TOLD) >= 6 and ends.count(programs.DONE) >= 3
 
 
 def inputs_of_steps():
@@ -973,7 +1114,7 @@ def inputs_of_receive():
 # --- The faults: that one which no input tells is a failure ---
 
 def faults_not_told_are_found():
-    trial = faults.Trial(lambda name: gate_inputs(name) if name == "encode" else [])
+    trial = faults.Trial(lambda name: gate_cases(name) if name == "encode" else [])
 
     def tried(module, old, new):
         return trial.try_fault(faults.Fault("a fault", ["encode"], module, old, new))
@@ -996,9 +1137,9 @@ def faults_not_told_are_found():
 def faults_of_all_programs():
     tellers = {teller for one in faults.FAULTS for teller in one.tellers}
     assert tellers == set(COMPARED) | {"calls " + chr(kind) for kind in inputs.KINDS}
-    assert len({one.about for one in faults.FAULTS}) == len(faults.FAULTS) >= 150
+    assert len({one.about for one in faults.FAULTS}) == len(faults.FAULTS) >= 190
     # The modules of the second program are as they were.
-    assert faults.programs_with(None) is not programs.PROGRAMS
+    assert faults.programs_with(None) is not programs.run
     assert sys.modules["programs"] is programs
 
 
@@ -1010,11 +1151,13 @@ TESTS = [
     station_refusals, errors_that_look_right, rows_and_kinds, demand_three,
     sender_examples, sender_corners, search_is_last_four, lock_either_way,
     lock_at_a_break, end_of_reception, settling, perfect_copy,
-    hear_example, words_in_and_out, letter_through_all, steps_records,
+    hear_example, words_in_and_out, whole_runs, script_gives_whole_runs,
+    letter_through_all, steps_records,
     calls_records, meaning_records, receive_records, receive_records_run_on,
     receive_records_cut,
     compare_names_all_programs, compare_counts_inputs,
-    inputs_are_bytes, inputs_of_steps, inputs_of_receive,
+    inputs_are_bytes, inputs_at_borders, inputs_tell_each_line,
+    inputs_of_steps, inputs_of_receive, conversations_are_answered,
     faults_not_told_are_found, faults_of_all_programs,
 ]
 
@@ -1029,7 +1172,7 @@ def main():
             failed += 1
             print("%s failed:" % test.__name__)
             traceback.print_exc(file=sys.stdout)
-    trial = faults.Trial(gate_inputs)
+    trial = faults.Trial(gate_cases)
     for one in faults.FAULTS:
         lines = trial.try_fault(one)
         for line in lines:
