@@ -1,0 +1,201 @@
+// The format of numbers (docs/FORMATS.md, "Numbers in, numbers out"): words read from the bytes of an input, and words put as
+// bytes into lent room. Nothing here reads or writes.
+
+// A reader of decimal numbers, 0 to 255, between white space: the place of the next byte, and of the number that has begun
+// its first byte and its value so far.
+pub struct Reader {
+    pub place: u64,
+    pub start: u64,
+    pub value: u8,
+    pub begun: bool,
+}
+
+// What a byte brings: nothing yet, a number that it ends, or that something stands at a place that is no such number: its
+// value is over 255, or it has a byte that is no digit.
+pub enum Event {
+    Nothing,
+    Word(u8),
+    Over(u64),
+    NoDigit(u64),
+}
+
+pub struct Took {
+    pub reader: Reader,
+    pub event: Event,
+}
+
+fn is_white(byte: u8) -> bool {
+    match byte {
+        9 | 10 | 13 | 32 => true,
+        _ => false,
+    }
+}
+
+// One further, up to a place that no input reaches.
+fn further(place: u64) -> u64 {
+    if place == u64::MAX {
+        return place;
+    }
+    place + 1
+}
+
+impl Reader {
+    pub fn new() -> Self {
+        Reader {
+            place: 0,
+            start: 0,
+            value: 0,
+            begun: false,
+        }
+    }
+
+    fn between(place: u64) -> Self {
+        Reader {
+            place: place,
+            start: 0,
+            value: 0,
+            begun: false,
+        }
+    }
+
+    // The first byte of the number to which the next byte belongs.
+    fn first(self) -> u64 {
+        if self.begun {
+            return self.start;
+        }
+        self.place
+    }
+
+    fn with_digit(self, digit: u8) -> Took {
+        let start = self.first();
+        let value = self.value;
+        let grown = (value as u16) * 10 + ((digit % 10) as u16);
+        if 255 < grown {
+            return Took {
+                reader: self,
+                event: Event::Over(start),
+            };
+        }
+        Took {
+            reader: Reader {
+                place: further(self.place),
+                start: start,
+                value: (grown % 256) as u8,
+                begun: true,
+            },
+            event: Event::Nothing,
+        }
+    }
+
+    pub fn take(self, byte: u8) -> Took {
+        if is_white(byte) {
+            let after = Reader::between(further(self.place));
+            if self.begun {
+                return Took {
+                    reader: after,
+                    event: Event::Word(self.value),
+                };
+            }
+            return Took {
+                reader: after,
+                event: Event::Nothing,
+            };
+        }
+        if byte < 48 {
+            return Took {
+                reader: self,
+                event: Event::NoDigit(self.first()),
+            };
+        }
+        if 57 < byte {
+            return Took {
+                reader: self,
+                event: Event::NoDigit(self.first()),
+            };
+        }
+        self.with_digit(byte - 48)
+    }
+
+    // What the end of the input brings.
+    pub fn end(self) -> Event {
+        if self.begun {
+            return Event::Word(self.value);
+        }
+        Event::Nothing
+    }
+}
+
+// The bytes that a word takes at most as it is written: a space, three digits, a line feed.
+pub const LONGEST: usize = 5;
+
+// The place past what was put, and the words that stand on the line.
+pub struct Put {
+    pub at: usize,
+    pub column: usize,
+}
+
+// Stores a byte; answers the place past it. A full room takes no more.
+pub fn put(room: &mut [u8], at: usize, byte: u8) -> usize {
+    if room.len() <= at {
+        return at;
+    }
+    room[at] = byte;
+    at + 1
+}
+
+// Stores the bytes; answers the place past them. A full room takes no more.
+pub fn put_all(room: &mut [u8], at: usize, bytes: &[u8]) -> usize {
+    let mut to = at;
+    let mut i = 0;
+    while i < bytes.len() {
+        to = put(room, to, bytes[i]);
+        i += 1;
+    }
+    to
+}
+
+// The decimal digits of the number.
+pub fn put_number(room: &mut [u8], at: usize, number: u8) -> usize {
+    let mut to = at;
+    if 100 <= number {
+        to = put(room, to, 48 + number / 100);
+    }
+    if 10 <= number {
+        to = put(room, to, 48 + number / 10 % 10);
+    }
+    put(room, to, 48 + number % 10)
+}
+
+// A word as it is written, sixteen to a line, where `column` words stand on the line already.
+pub fn put_word(room: &mut [u8], at: usize, column: usize, word: u8) -> Put {
+    let mut to = at;
+    if column != 0 {
+        to = put(room, to, 32);
+    }
+    to = put_number(room, to, word);
+    if 15 <= column {
+        return Put {
+            at: put(room, to, 10),
+            column: 0,
+        };
+    }
+    Put {
+        at: to,
+        column: column + 1,
+    }
+}
+
+// The capital hexadecimal digit of the value's lower half.
+fn hex_digit(value: u8) -> u8 {
+    let half = value % 16;
+    if half < 10 {
+        return 48 + half;
+    }
+    55 + half
+}
+
+// Two capital hexadecimal digits.
+pub fn put_hex(room: &mut [u8], at: usize, byte: u8) -> usize {
+    let to = put(room, at, hex_digit(byte / 16));
+    put(room, to, hex_digit(byte))
+}
