@@ -129,7 +129,7 @@ impl Reader {
 pub const LONGEST: usize = 5;
 
 // The place past what was put, and the words that stand on the line.
-pub struct Put {
+pub struct Line {
     pub at: usize,
     pub column: usize,
 }
@@ -167,19 +167,19 @@ pub fn put_number(room: &mut [u8], at: usize, number: u8) -> usize {
 }
 
 // A word as it is written, sixteen to a line, where `column` words stand on the line already.
-pub fn put_word(room: &mut [u8], at: usize, column: usize, word: u8) -> Put {
+pub fn put_word(room: &mut [u8], at: usize, column: usize, word: u8) -> Line {
     let mut to = at;
     if column != 0 {
         to = put(room, to, 32);
     }
     to = put_number(room, to, word);
     if 15 <= column {
-        return Put {
+        return Line {
             at: put(room, to, 10),
             column: 0,
         };
     }
-    Put {
+    Line {
         at: to,
         column: column + 1,
     }
