@@ -138,9 +138,7 @@ fn heard(before: Hearing, output: &mut [u8], burst: Words, step: u64) -> Hearing
     Hearing {
         slave: after,
         case: ends,
-        stream: stream
-            .put_decimal(output, step)
-            .put_line(output, &line, at),
+        stream: stream.put_decimal(output, step).put_line(output, &line, at),
     }
 }
 
