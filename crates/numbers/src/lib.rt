@@ -154,25 +154,33 @@ pub fn put_all(room: &mut [u8], at: usize, bytes: &[u8]) -> usize {
     to
 }
 
-// The decimal digits of the number.
+// The decimal digits of the number, without leading zeros.
 pub fn put_number(room: &mut [u8], at: usize, number: u8) -> usize {
-    let mut to = at;
-    if 100 <= number {
-        to = put(room, to, 48 + number / 100);
+    if number < 10 {
+        return put(room, at, 48 + number);
     }
-    if 10 <= number {
-        to = put(room, to, 48 + number / 10 % 10);
+    if number < 100 {
+        let to = put(room, at, 48 + number / 10);
+        return put(room, to, 48 + number % 10);
     }
-    put(room, to, 48 + number % 10)
+    let to = put(room, at, 48 + number / 100);
+    let rest = number % 100;
+    let then = put(room, to, 48 + rest / 10);
+    put(room, then, 48 + rest % 10)
+}
+
+// The space between words: the first of a line has none before it.
+fn put_between(room: &mut [u8], at: usize, column: usize) -> usize {
+    if column == 0 {
+        return at;
+    }
+    put(room, at, 32)
 }
 
 // A word as it is written, sixteen to a line, where `column` words stand on the line already.
 pub fn put_word(room: &mut [u8], at: usize, column: usize, word: u8) -> Line {
-    let mut to = at;
-    if column != 0 {
-        to = put(room, to, 32);
-    }
-    to = put_number(room, to, word);
+    let from = put_between(room, at, column);
+    let to = put_number(room, from, word);
     if 15 <= column {
         return Line {
             at: put(room, to, 10),
