@@ -27,6 +27,12 @@ pub struct Ended {
     pub outcome: Outcome,
 }
 
+// The place of the next record, and whether there is none.
+pub struct Next {
+    pub place: u64,
+    pub done: bool,
+}
+
 fn ended(stream: Stream, outcome: Outcome) -> Ended {
     Ended { stream, outcome }
 }
@@ -373,29 +379,24 @@ fn tell(stream: Stream, output: &[u8], place: u64, why: &[u8]) {
     filters::tell_place(b"calls", b"bad record at ", place, why);
 }
 
-fn end(ended: Ended, output: &[u8], place: u64) {
+// The place behind the record that was answered; or the program ends.
+fn behind(ended: Ended, output: &[u8], place: u64) -> Next {
     let stream = ended.stream;
     let outcome = ended.outcome;
     match outcome {
-        // not reached: it goes on
-        Outcome::Answered(_) => {}
+        Outcome::Answered(bytes) => {
+            return Next {
+                place: past(place, bytes),
+                done: false,
+            };
+        }
         Outcome::Over => stream.finish(output, b"calls"),
         Outcome::NoKind => tell(stream, output, place, b"no such kind"),
         Outcome::CutShort => tell(stream, output, place, b"cut short"),
         Outcome::Room => tell(stream, output, place, b"a room over 8192"),
         Outcome::Length => tell(stream, output, place, b"a length over 8193"),
     }
-}
-
-fn bytes_of(outcome: Outcome) -> u64 {
-    match outcome {
-        Outcome::Answered(bytes) => bytes,
-        Outcome::Over => 0,
-        Outcome::NoKind => 0,
-        Outcome::CutShort => 0,
-        Outcome::Room => 0,
-        Outcome::Length => 0,
-    }
+    Next { place, done: true }
 }
 
 fn main() {
@@ -411,13 +412,12 @@ fn main() {
     let mut turns = u64::MAX;
     while turns > 0 {
         let ended = record(stream, &mut input, &mut output, &mut list, &mut room);
-        let bytes = bytes_of(ended.outcome);
-        if bytes == 0 {
-            end(ended, &output, place);
+        let next = behind(ended, &output, place);
+        if next.done {
             return;
         }
         stream = ended.stream;
-        place = past(place, bytes);
+        place = next.place;
         turns -= 1;
     }
 }

@@ -5,7 +5,6 @@ use mode_a::Station;
 use mode_a::Words;
 use signals::Case;
 use text::Printed;
-ghost use Prim.Native.Nat.{_≤_};
 
 // What goes from step to step: the slave, the case that its printing has come to, and the streams.
 pub struct Hearing {
@@ -61,49 +60,43 @@ fn put_sent(line: &mut [u8], at: usize, sent: Words) -> usize {
     put_next(line, two, sent.2)
 }
 
-// How many signals are printed: 0 stands behind the last.
-fn signals_in(printed: Words) -> usize
-    ensures { λ r. ⌜ r ≤ 3 ⌝ }
-{
-    if printed.0 == 0 {
-        return 0;
-    }
-    if printed.1 == 0 {
-        return 1;
-    }
-    if printed.2 == 0 {
-        return 2;
-    }
-    3
-}
-
 // The first `count` bytes in hexadecimal.
 fn put_bytes(line: &mut [u8], at: usize, bytes: [u8; 3], count: usize) -> usize {
     if count == 0 {
         return numbers::put_all(line, at, b"none");
     }
-    let mut to = numbers::put_hex(line, at, bytes[0]);
-    if 2 <= count {
-        to = numbers::put_hex(line, to, bytes[1]);
+    let one = numbers::put_hex(line, at, bytes[0]);
+    if count == 1 {
+        return one;
     }
-    if 3 <= count {
-        to = numbers::put_hex(line, to, bytes[2]);
+    let two = numbers::put_hex(line, one, bytes[1]);
+    if count == 2 {
+        return two;
     }
-    to
+    numbers::put_hex(line, two, bytes[2])
 }
 
-// Prints the signals from the case, and puts the bytes that they give. Most steps print none, and then nothing is called.
+// Prints the signals, of which there is one at least: 0 stands behind the last.
+fn print(printed: Words, case: Case, room: &mut [u8]) -> Printed {
+    if printed.1 == 0 {
+        return printing::print(&[printed.0], case, room);
+    }
+    if printed.2 == 0 {
+        return printing::print(&[printed.0, printed.1], case, room);
+    }
+    printing::print(&[printed.0, printed.1, printed.2], case, room)
+}
+
+// Prints the signals from the case, if there are any, and puts the bytes that they give.
 fn put_printed(line: &mut [u8], at: usize, printed: Words, case: Case) -> Put {
-    let count = signals_in(printed);
     let mut room = [0u8; 3];
-    if count == 0 {
+    if printed.0 == 0 {
         return Put {
             at: put_bytes(line, at, room, 0),
             case,
         };
     }
-    let words = [printed.0, printed.1, printed.2];
-    let answer = printing::print(&words[..count], case, &mut room);
+    let answer = print(printed, case, &mut room);
     match answer {
         Printed::Written {
             count: written,
@@ -142,6 +135,25 @@ fn heard(before: Hearing, output: &mut [u8], burst: Words, step: u64) -> Hearing
     }
 }
 
+// The next burst read and heard. A short last one keeps its zeros.
+fn turn(before: Hearing, input: &mut [u8], output: &mut [u8], step: u64) -> Hearing {
+    let slave = before.slave;
+    let case = before.case;
+    let stream = before.stream;
+    let mut burst = [0u8; 3];
+    let read = stream.record(input, output, &mut burst);
+    let after = read.stream;
+    let hearing = Hearing {
+        slave,
+        case,
+        stream: after,
+    };
+    if read.count == 0 {
+        return hearing;
+    }
+    heard(hearing, output, Words(burst[0], burst[1], burst[2]), step)
+}
+
 fn main() {
     if filters::has_words(b"hear") {
         return;
@@ -155,27 +167,12 @@ fn main() {
     };
     let mut step: u64 = 0;
     while step < u64::MAX {
-        // a short last burst keeps its zeros
-        let mut burst = [0u8; 3];
-        let before = hearing.stream;
-        let read = before.record(&mut input, &output, &mut burst);
-        let stream = read.stream;
-        if read.count == 0 {
+        let stream = hearing.stream;
+        if stream.over {
             stream.finish(&output, b"hear");
             return;
         }
         step += 1;
-        let slave = hearing.slave;
-        let case = hearing.case;
-        hearing = heard(
-            Hearing {
-                slave,
-                case,
-                stream,
-            },
-            &mut output,
-            Words(burst[0], burst[1], burst[2]),
-            step,
-        );
+        hearing = turn(hearing, &mut input, &mut output, step);
     }
 }

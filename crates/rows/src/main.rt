@@ -8,92 +8,151 @@ use mode_a::Words;
 use table::Action;
 use table::Kind;
 
-fn put_kind(line: &mut [u8], at: usize, kind: Kind) -> usize {
-    match kind {
-        Kind::Cs1Block => numbers::put_all(line, at, b"cs1-block"),
-        Kind::Cs1 => numbers::put_all(line, at, b"cs1"),
-        Kind::Cs2Block => numbers::put_all(line, at, b"cs2-block"),
-        Kind::Cs2 => numbers::put_all(line, at, b"cs2"),
-        Kind::Cs3Block => numbers::put_all(line, at, b"cs3-block"),
-        Kind::Cs3 => numbers::put_all(line, at, b"cs3"),
-        Kind::Rqs => numbers::put_all(line, at, b"rqs"),
-        Kind::Rq => numbers::put_all(line, at, b"rq"),
-        Kind::Block => numbers::put_all(line, at, b"block"),
-        Kind::Turn => numbers::put_all(line, at, b"turn"),
-        Kind::Alphas => numbers::put_all(line, at, b"alphas"),
-        Kind::Else => numbers::put_all(line, at, b"else"),
+// The places and the kinds in 01's order. What a place holds does not choose its row.
+fn place_at(no: u64) -> Place {
+    match no {
+        0 => Place::Sending(Held {
+            number: Number::One,
+            block: mode_a::SILENCE,
+        }),
+        1 => Place::Turning(Number::One),
+        2 => Place::Opening,
+        3 => Place::Ending(Ended {
+            number: Number::One,
+            total: 1,
+        }),
+        4 => Place::Receiving(Number::One),
+        5 => Place::Asking,
+        6 => Place::StandBy,
+        _ => Place::Lost,
     }
 }
 
-fn put_action(line: &mut [u8], at: usize, action: Action) -> usize {
-    match action {
-        Action::Asked1 => numbers::put_all(line, at, b"asked-1"),
-        Action::Asked2 => numbers::put_all(line, at, b"asked-2"),
-        Action::Turn => numbers::put_all(line, at, b"turn"),
-        Action::Rqs => numbers::put_all(line, at, b"rqs"),
-        Action::TurnAgain => numbers::put_all(line, at, b"turn-again"),
-        Action::Receive => numbers::put_all(line, at, b"receive"),
-        Action::ReceiveIfSlave => numbers::put_all(line, at, b"receive-if-slave"),
-        Action::Take1 => numbers::put_all(line, at, b"take-1"),
-        Action::Take2 => numbers::put_all(line, at, b"take-2"),
-        Action::StandBy => numbers::put_all(line, at, b"stand-by"),
-        Action::Request => numbers::put_all(line, at, b"request"),
-        Action::Ended1 => numbers::put_all(line, at, b"ended-1"),
-        Action::Ended2 => numbers::put_all(line, at, b"ended-2"),
-        Action::EndAgain => numbers::put_all(line, at, b"end-again"),
-        Action::Accept => numbers::put_all(line, at, b"accept"),
-        Action::AskAgain => numbers::put_all(line, at, b"ask-again"),
-        Action::Finish => numbers::put_all(line, at, b"finish"),
-        Action::Cs3Again => numbers::put_all(line, at, b"cs3-again"),
-        Action::Open => numbers::put_all(line, at, b"open"),
-        Action::Silent => numbers::put_all(line, at, b"silent"),
+fn kind_at(no: u64) -> Kind {
+    match no {
+        0 => Kind::Cs1Block,
+        1 => Kind::Cs1,
+        2 => Kind::Cs2Block,
+        3 => Kind::Cs2,
+        4 => Kind::Cs3Block,
+        5 => Kind::Cs3,
+        6 => Kind::Rqs,
+        7 => Kind::Rq,
+        8 => Kind::Block,
+        9 => Kind::Turn,
+        10 => Kind::Alphas,
+        _ => Kind::Else,
     }
+}
+
+fn kind_no(kind: Kind) -> u64 {
+    match kind {
+        Kind::Cs1Block => 0,
+        Kind::Cs1 => 1,
+        Kind::Cs2Block => 2,
+        Kind::Cs2 => 3,
+        Kind::Cs3Block => 4,
+        Kind::Cs3 => 5,
+        Kind::Rqs => 6,
+        Kind::Rq => 7,
+        Kind::Block => 8,
+        Kind::Turn => 9,
+        Kind::Alphas => 10,
+        Kind::Else => 11,
+    }
+}
+
+fn put_where(line: &mut [u8], at: usize, byte: u8, wanted: bool) -> usize {
+    if wanted {
+        return numbers::put(line, at, byte);
+    }
+    at
+}
+
+// The name that has so many others before it in a list, with a space behind each.
+fn put_name(line: &mut [u8], at: usize, names: &[u8], before: u64) -> usize {
+    let mut to = at;
+    let mut left = before;
+    let mut i = 0;
+    while i < names.len() {
+        let byte = names[i];
+        i += 1;
+        if byte != 32 {
+            to = put_where(line, to, byte, left == 0);
+        } else {
+            if left == 0 {
+                return to;
+            }
+            left -= 1;
+        }
+    }
+    to
+}
+
+// A space and the kind.
+fn put_kind(line: &mut [u8], at: usize, kind: Kind) -> usize {
+    let to = numbers::put(line, at, 32);
+    put_name(
+        line,
+        to,
+        b"cs1-block cs1 cs2-block cs2 cs3-block cs3 rqs rq block turn alphas else ",
+        kind_no(kind),
+    )
+}
+
+fn action_no(action: Action) -> u64 {
+    match action {
+        Action::Asked1 => 0,
+        Action::Asked2 => 1,
+        Action::Turn => 2,
+        Action::Rqs => 3,
+        Action::TurnAgain => 4,
+        Action::Receive => 5,
+        Action::ReceiveIfSlave => 6,
+        Action::Take1 => 7,
+        Action::Take2 => 8,
+        Action::StandBy => 9,
+        Action::Request => 10,
+        Action::Ended1 => 11,
+        Action::Ended2 => 12,
+        Action::EndAgain => 13,
+        Action::Accept => 14,
+        Action::AskAgain => 15,
+        Action::Finish => 16,
+        Action::Cs3Again => 17,
+        Action::Open => 18,
+        Action::Silent => 19,
+    }
+}
+
+// A space and the action.
+fn put_action(line: &mut [u8], at: usize, action: Action) -> usize {
+    let to = numbers::put(line, at, 32);
+    put_name(
+        line,
+        to,
+        b"asked-1 asked-2 turn rqs turn-again receive receive-if-slave take-1 take-2 stand-by request ended-1 ended-2 end-again accept ask-again finish cs3-again open silent ",
+        action_no(action),
+    )
 }
 
 fn put_cell(stream: Stream, output: &mut [u8], place: Place, kind: Kind) -> Stream {
     let mut line = [0u8; 64];
     let mut at = fields::put_place(&mut line, 0, place);
-    at = numbers::put(&mut line, at, 32);
     at = put_kind(&mut line, at, kind);
-    at = numbers::put(&mut line, at, 32);
     at = put_action(&mut line, at, table::action_at(place, kind));
     at = numbers::put(&mut line, at, 10);
     stream.put_line(output, &line, at)
 }
 
-// The cells of a place. What it holds does not choose its row.
-fn put_row(stream: Stream, output: &mut [u8], place: Place) -> Stream {
-    let mut to = put_cell(stream, output, place, Kind::Cs1Block);
-    to = put_cell(to, output, place, Kind::Cs1);
-    to = put_cell(to, output, place, Kind::Cs2Block);
-    to = put_cell(to, output, place, Kind::Cs2);
-    to = put_cell(to, output, place, Kind::Cs3Block);
-    to = put_cell(to, output, place, Kind::Cs3);
-    to = put_cell(to, output, place, Kind::Rqs);
-    to = put_cell(to, output, place, Kind::Rq);
-    to = put_cell(to, output, place, Kind::Block);
-    to = put_cell(to, output, place, Kind::Turn);
-    to = put_cell(to, output, place, Kind::Alphas);
-    put_cell(to, output, place, Kind::Else)
-}
-
-fn put_table(stream: Stream, output: &mut [u8]) -> Stream {
-    let sending = Place::Sending(Held {
-        number: Number::One,
-        block: mode_a::SILENCE,
-    });
-    let ending = Place::Ending(Ended {
-        number: Number::One,
-        total: 1,
-    });
-    let mut to = put_row(stream, output, sending);
-    to = put_row(to, output, Place::Turning(Number::One));
-    to = put_row(to, output, Place::Opening);
-    to = put_row(to, output, ending);
-    to = put_row(to, output, Place::Receiving(Number::One));
-    to = put_row(to, output, Place::Asking);
-    to = put_row(to, output, Place::StandBy);
-    put_row(to, output, Place::Lost)
+fn put_table(first: Stream, output: &mut [u8]) -> Stream {
+    let mut stream = first;
+    let mut cell: u64 = 0;
+    while cell < 96 {
+        stream = put_cell(stream, output, place_at(cell / 12), kind_at(cell % 12));
+        cell += 1;
+    }
+    stream
 }
 
 fn put_heard(stream: Stream, output: &mut [u8], burst: &[u8; 3]) -> Stream {
@@ -101,7 +160,6 @@ fn put_heard(stream: Stream, output: &mut [u8], burst: &[u8; 3]) -> Stream {
     let mut at = numbers::put_number(&mut line, 0, burst[0]);
     at = fields::put_number(&mut line, at, burst[1]);
     at = fields::put_number(&mut line, at, burst[2]);
-    at = numbers::put(&mut line, at, 32);
     at = put_kind(
         &mut line,
         at,
@@ -109,6 +167,17 @@ fn put_heard(stream: Stream, output: &mut [u8], burst: &[u8; 3]) -> Stream {
     );
     at = numbers::put(&mut line, at, 10);
     stream.put_line(output, &line, at)
+}
+
+// The next burst read, and its kind. A short last one is ignored.
+fn turn(stream: Stream, input: &mut [u8], output: &mut [u8]) -> Stream {
+    let mut burst = [0u8; 3];
+    let read = stream.record(input, output, &mut burst);
+    let after = read.stream;
+    if read.count != 3 {
+        return after;
+    }
+    put_heard(after, output, &burst)
 }
 
 fn main() {
@@ -120,14 +189,11 @@ fn main() {
     let mut stream = put_table(Stream::new(), &mut output);
     let mut turns = u64::MAX;
     while turns > 0 {
-        let mut burst = [0u8; 3];
-        let read = stream.record(&mut input, &output, &mut burst);
-        stream = read.stream;
-        if read.count != 3 {
+        if stream.over {
             stream.finish(&output, b"rows");
             return;
         }
-        stream = put_heard(stream, &mut output, &burst);
+        stream = turn(stream, &mut input, &mut output);
         turns -= 1;
     }
 }

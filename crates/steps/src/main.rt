@@ -175,6 +175,17 @@ fn answer(stream: Stream, output: &mut [u8], record: &[u8; 17]) -> Stream {
     put_answer(stream, output, stepped)
 }
 
+// The next record read and answered. A short last one is ignored.
+fn turn(stream: Stream, input: &mut [u8], output: &mut [u8]) -> Stream {
+    let mut record = [0u8; 17];
+    let read = stream.record(input, output, &mut record);
+    let after = read.stream;
+    if read.count != 17 {
+        return after;
+    }
+    answer(after, output, &record)
+}
+
 fn main() {
     if filters::has_words(b"steps") {
         return;
@@ -184,14 +195,11 @@ fn main() {
     let mut stream = Stream::new();
     let mut turns = u64::MAX;
     while turns > 0 {
-        let mut record = [0u8; 17];
-        let read = stream.record(&mut input, &output, &mut record);
-        stream = read.stream;
-        if read.count != 17 {
+        if stream.over {
             stream.finish(&output, b"steps");
             return;
         }
-        stream = answer(stream, &mut output, &record);
+        stream = turn(stream, &mut input, &mut output);
         turns -= 1;
     }
 }
