@@ -1,8 +1,7 @@
 // What the programs share (docs/FORMATS.md): standard input and output by the block, numbers read and written, and what is told
 // on standard error. No contract can speak of what a program reads or writes, so these functions are proved to be safe and to
 // end, and the programs are run and compared; what is put into a room and how numbers are read is promised by `numbers`.
-ghost use Prim.Native.Nat.{_≤_};
-ghost use lib.ListN.{length};
+ghost use Rattle.io.specs.Counts.{Counts};
 use numbers::Event;
 use numbers::Reader;
 
@@ -35,6 +34,12 @@ pub enum Number {
     NoDigit(u64),
 }
 
+// What the rest of a block brings.
+struct Scanned {
+    stream: Stream,
+    event: Event,
+}
+
 pub struct Numbered {
     pub stream: Stream,
     pub number: Number,
@@ -45,6 +50,25 @@ pub struct Filled {
     pub stream: Stream,
     pub count: usize,
     pub number: Number,
+}
+
+fn brings(event: Event) -> bool {
+    match event {
+        Event::Nothing => false,
+        Event::Word(_) => true,
+        Event::Over(_) => true,
+        Event::NoDigit(_) => true,
+    }
+}
+
+// The number that an event brings; where it brings nothing, there is none.
+fn number_of(event: Event) -> Number {
+    match event {
+        Event::Nothing => Number::End,
+        Event::Word(word) => Number::Word(word),
+        Event::Over(place) => Number::Over(place),
+        Event::NoDigit(place) => Number::NoDigit(place),
+    }
 }
 
 impl Stream {
@@ -75,9 +99,9 @@ impl Stream {
         }
     }
 
-    fn with_reader(self, reader: Reader) -> Self {
+    fn with_reader(self, next: usize, reader: Reader) -> Self {
         Stream {
-            next: self.next,
+            next: next,
             end: self.end,
             waiting: self.waiting,
             reader: reader,
@@ -105,71 +129,63 @@ impl Stream {
     // Writes what waits.
     pub fn flush(self, output: &[u8]) -> Self {
         let column = self.column;
-        let waiting = self.waiting;
-        if output.len() < waiting {
-            return self.with_output(0, column, true);
-        }
         if self.unwritten {
             return self.with_output(0, column, true);
         }
-        let written = io::write_all(1, &output[..waiting]);
+        let written = write_first(1, output, self.waiting);
         self.with_output(0, column, !written)
     }
 
-    // Reads the next block, after what waits is written. Where a write has failed nothing more is read.
-    fn refill(self, input: &mut [u8], output: &[u8]) -> Byte {
+    // Reads the next block, after what waits is written: an empty one where the input is over, a read fails or a write has
+    // failed.
+    fn refill(self, input: &mut [u8], output: &[u8]) -> Self {
         let stream = self.flush(output);
         if stream.over {
-            return Byte {
-                stream,
-                byte: 0,
-                more: false,
-            };
+            return stream;
         }
         if stream.unwritten {
-            return Byte {
-                stream,
-                byte: 0,
-                more: false,
-            };
+            return stream.with_input(0, 0, true, false);
         }
         let got = libc::read(0, input);
         let count = io::count(got, input);
-        if count == 0 {
-            return Byte {
-                stream: stream.with_input(0, 0, true, got < 0),
-                byte: 0,
-                more: false,
-            };
+        stream.with_input(0, count, count == 0, got < 0)
+    }
+
+    // The next byte of the block.
+    fn byte_of(self, block: &[u8]) -> Byte {
+        let next = self.next;
+        let end = self.end;
+        if next < end {
+            if next < block.len() {
+                return Byte {
+                    stream: self.with_input(next + 1, end, false, false),
+                    byte: block[next],
+                    more: true,
+                };
+            }
         }
         Byte {
-            stream: stream.with_input(1, count, false, false),
-            byte: input[0],
-            more: true,
+            stream: self,
+            byte: 0,
+            more: false,
         }
     }
 
     // The next byte of the input.
     pub fn byte(self, input: &mut [u8], output: &[u8]) -> Byte {
-        let next = self.next;
-        let end = self.end;
-        if next < end {
-            if next < input.len() {
-                return Byte {
-                    stream: self.with_input(next + 1, end, false, false),
-                    byte: input[next],
-                    more: true,
-                };
-            }
+        if self.next < self.end {
+            return self.byte_of(input);
         }
-        self.refill(input, output)
+        self.refill(input, output).byte_of(input)
     }
 
-    // Fills the record with the bytes that come next; fewer where the input ends.
-    pub fn record(self, input: &mut [u8], output: &[u8], record: &mut [u8]) -> Filled {
+    // Fills the room with the bytes that come next; fewer where the input ends.
+    pub fn record(self, input: &mut [u8], output: &[u8], room: &mut [u8]) -> Filled
+        ensures { λ r. ⌜ Counts (r .count) (now (room .exit)) ⌝ }
+    {
         let mut stream = self;
         let mut count = 0;
-        while count < record.len() {
+        while count < room.len() {
             let got = stream.byte(input, output);
             stream = got.stream;
             if !got.more {
@@ -179,7 +195,7 @@ impl Stream {
                     number: Number::End,
                 };
             }
-            record[count] = got.byte;
+            room[count] = got.byte;
             count += 1;
         }
         Filled {
@@ -189,41 +205,71 @@ impl Stream {
         }
     }
 
+    // Reads on in the block, up to what its bytes bring; nothing where they end before. The reader goes field by field: as a
+    // struct it would be copied at each byte, padding and all.
+    fn scan(self, block: &[u8]) -> Scanned {
+        let end = self.end;
+        let before = self.reader;
+        let mut place = before.place;
+        let mut start = before.start;
+        let mut value = before.value;
+        let mut begun = before.begun;
+        let mut next = self.next;
+        if end <= block.len() {
+            while next < end {
+                let reader = Reader {
+                    place: place,
+                    start: start,
+                    value: value,
+                    begun: begun,
+                };
+                let took = reader.take(block[next]);
+                let after = took.reader;
+                let event = took.event;
+                next += 1;
+                if brings(event) {
+                    return Scanned {
+                        stream: self.with_reader(next, after),
+                        event,
+                    };
+                }
+                place = after.place;
+                start = after.start;
+                value = after.value;
+                begun = after.begun;
+            }
+        }
+        Scanned {
+            stream: self.with_reader(
+                next,
+                Reader {
+                    place: place,
+                    start: start,
+                    value: value,
+                    begun: begun,
+                },
+            ),
+            event: Event::Nothing,
+        }
+    }
+
     // The next number of the input.
     pub fn number(self, input: &mut [u8], output: &[u8]) -> Numbered {
         let mut stream = self;
         let mut turns = u64::MAX;
         while turns > 0 {
-            let got = stream.byte(input, output);
-            stream = got.stream;
-            if !got.more {
-                return stream.last_number();
+            let scanned = stream.scan(input);
+            stream = scanned.stream;
+            let event = scanned.event;
+            if brings(event) {
+                return Numbered {
+                    stream,
+                    number: number_of(event),
+                };
             }
-            let before = stream.reader;
-            let took = before.take(got.byte);
-            let reader = took.reader;
-            let event = took.event;
-            stream = stream.with_reader(reader);
-            match event {
-                Event::Nothing => {}
-                Event::Word(word) => {
-                    return Numbered {
-                        stream,
-                        number: Number::Word(word),
-                    };
-                }
-                Event::Over(place) => {
-                    return Numbered {
-                        stream,
-                        number: Number::Over(place),
-                    };
-                }
-                Event::NoDigit(place) => {
-                    return Numbered {
-                        stream,
-                        number: Number::NoDigit(place),
-                    };
-                }
+            stream = stream.refill(input, output);
+            if stream.end == 0 {
+                return stream.last_number();
             }
             turns -= 1;
         }
@@ -233,33 +279,27 @@ impl Stream {
         }
     }
 
-    // What the end of the input brings: a number that it ends, once.
+    // What the end of the input brings: a number that it ends, once. A read that failed is not the end, and what was begun
+    // before it no number.
     fn last_number(self) -> Numbered {
         let before = self.reader;
-        let stream = self.with_reader(Reader::new());
-        match before.end() {
-            Event::Nothing => Numbered {
+        let next = self.next;
+        let stream = self.with_reader(next, Reader::new());
+        if stream.unread {
+            return Numbered {
                 stream,
                 number: Number::End,
-            },
-            Event::Word(word) => Numbered {
-                stream,
-                number: Number::Word(word),
-            },
-            Event::Over(place) => Numbered {
-                stream,
-                number: Number::Over(place),
-            },
-            Event::NoDigit(place) => Numbered {
-                stream,
-                number: Number::NoDigit(place),
-            },
+            };
+        }
+        Numbered {
+            stream,
+            number: number_of(before.end()),
         }
     }
 
     // Puts the numbers that come next into the room, until it is full, the input ends, or something is no number.
     pub fn numbers(self, input: &mut [u8], output: &[u8], room: &mut [u8]) -> Filled
-        ensures { λ r. ⌜ r .count ≤ length (now (room .exit)) ⌝ }
+        ensures { λ r. ⌜ Counts (r .count) (now (room .exit)) ⌝ }
     {
         let mut stream = self;
         let mut count = 0;
@@ -272,21 +312,7 @@ impl Stream {
                     room[count] = word;
                     count += 1;
                 }
-                Number::End => {
-                    return Filled {
-                        stream,
-                        count,
-                        number,
-                    };
-                }
-                Number::Over(place) => {
-                    return Filled {
-                        stream,
-                        count,
-                        number,
-                    };
-                }
-                Number::NoDigit(place) => {
+                Number::End | Number::Over(_) | Number::NoDigit(_) => {
                     return Filled {
                         stream,
                         count,
@@ -304,14 +330,10 @@ impl Stream {
 
     // Room for so many bytes more: where there is less, what waits is written.
     fn with_room(self, output: &[u8], bytes: usize) -> Self {
-        let waiting = self.waiting;
-        if output.len() < waiting {
-            return self.flush(output);
+        if has_room(output, self.waiting, bytes) {
+            return self;
         }
-        if output.len() - waiting < bytes {
-            return self.flush(output);
-        }
-        self
+        self.flush(output)
     }
 
     pub fn put(self, output: &mut [u8], byte: u8) -> Self {
@@ -346,10 +368,16 @@ impl Stream {
 
     // A word as it is written, sixteen to a line.
     pub fn put_word(self, output: &mut [u8], word: u8) -> Self {
-        let stream = self.with_room(output, numbers::LONGEST);
-        let unwritten = stream.unwritten;
-        let put = numbers::put_word(output, stream.waiting, stream.column, word);
-        stream.with_output(put.at, put.column, unwritten)
+        if has_room(output, self.waiting, numbers::LONGEST) {
+            return self.store_word(output, word);
+        }
+        self.flush(output).store_word(output, word)
+    }
+
+    fn store_word(self, output: &mut [u8], word: u8) -> Self {
+        let unwritten = self.unwritten;
+        let put = numbers::put_word(output, self.waiting, self.column, word);
+        self.with_output(put.at, put.column, unwritten)
     }
 
     // Ends the line of words, if one has been begun.
@@ -402,9 +430,10 @@ impl Stream {
         let mut stream = self;
         let mut i = 0;
         while i < words.len() {
-            if i < count {
-                stream = stream.put_word(output, words[i]);
+            if count <= i {
+                return stream.end_line(output);
             }
+            stream = stream.put_word(output, words[i]);
             i += 1;
         }
         stream.end_line(output)
@@ -430,6 +459,22 @@ impl Stream {
     }
 }
 
+// Whether so many bytes more fit behind those that wait.
+fn has_room(output: &[u8], waiting: usize, bytes: usize) -> bool {
+    if output.len() < waiting {
+        return false;
+    }
+    bytes <= output.len() - waiting
+}
+
+// Writes the first bytes of a room; answers whether they were written.
+fn write_first(fd: i32, room: &[u8], count: usize) -> bool {
+    if room.len() < count {
+        return false;
+    }
+    io::write_all(fd, &room[..count])
+}
+
 // A Rattle program has no exit status: it writes the digit of it to descriptor 3, which the script `telex` reads.
 fn end_with(digit: u8) {
     io::write_all(3, &[digit]);
@@ -444,9 +489,7 @@ fn put_decimal(line: &mut [u8], at: usize, number: u64) -> usize {
 // Writes the line to standard error at once, so that programs of a pipe do not write into each other's.
 fn write_line(line: &mut [u8], at: usize) {
     let end = numbers::put(line, at, 10);
-    if end <= line.len() {
-        io::write_all(2, &line[..end]);
-    }
+    write_first(2, line, end);
 }
 
 // Tells the words on a line of standard error, behind the program's name. The line has room for what is told here.

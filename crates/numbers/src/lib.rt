@@ -1,5 +1,11 @@
 // The format of numbers (docs/FORMATS.md, "Numbers in, numbers out"): words read from the bytes of an input, and words put as
 // bytes into lent room. Nothing here reads or writes.
+ghost use mathlib.Core.Path.{_≡_};
+ghost use mathlib.Core.List.{[], _∷_};
+ghost use Prim.Native.Nat.{_<_};
+ghost use Rattle.numbers.specs.Reading.{isWhite, isDigit};
+ghost use Rattle.numbers.specs.Steps.{freshReader, further, firstByte, ending, takingDigit, taking};
+ghost use Rattle.numbers.specs.Writing.{Puts, decimal, hexDigit, hexadecimal, spaceBefore, PutsWord};
 
 // A reader of decimal numbers, 0 to 255, between white space: the place of the next byte, and of the number that has begun
 // its first byte and its value so far.
@@ -24,15 +30,34 @@ pub struct Took {
     pub event: Event,
 }
 
-fn is_white(byte: u8) -> bool {
-    match byte {
-        9 | 10 | 13 | 32 => true,
-        _ => false,
+fn is_white(byte: u8) -> bool
+    ensures { λ r. ⌜ r ≡ isWhite byte ⌝ }
+{
+    if byte == 32 {
+        return true;
     }
+    if byte == 9 {
+        return true;
+    }
+    if byte == 13 {
+        return true;
+    }
+    byte == 10
+}
+
+fn is_digit(byte: u8) -> bool
+    ensures { λ r. ⌜ r ≡ isDigit byte ⌝ }
+{
+    if byte < 48 {
+        return false;
+    }
+    byte <= 57
 }
 
 // One further, up to a place that no input reaches.
-fn further(place: u64) -> u64 {
+fn further(place: u64) -> u64
+    ensures { λ r. ⌜ r ≡ further place ⌝ }
+{
     if place == u64::MAX {
         return place;
     }
@@ -40,7 +65,9 @@ fn further(place: u64) -> u64 {
 }
 
 impl Reader {
-    pub fn new() -> Self {
+    pub fn new() -> Self
+        ensures { λ r. ⌜ r ≡ freshReader ⌝ }
+    {
         Reader {
             place: 0,
             start: 0,
@@ -49,28 +76,23 @@ impl Reader {
         }
     }
 
-    fn between(place: u64) -> Self {
-        Reader {
-            place: place,
-            start: 0,
-            value: 0,
-            begun: false,
-        }
-    }
-
     // The first byte of the number to which the next byte belongs.
-    fn first(self) -> u64 {
+    fn first(self) -> u64
+        ensures { λ r. ⌜ r ≡ firstByte self ⌝ }
+    {
         if self.begun {
             return self.start;
         }
         self.place
     }
 
-    fn with_digit(self, digit: u8) -> Took {
+    fn take_digit(self, digit: u8) -> Took
+        requires { ⌜ digit < 10 ⌝ }
+        ensures { λ r. ⌜ r ≡ takingDigit self digit ⌝ }
+    {
         let start = self.first();
-        let value = self.value;
-        let grown = (value as u16) * 10 + ((digit % 10) as u16);
-        if 255 < grown {
+        let value = (self.value as u16) * 10 + (digit as u16);
+        if 255 < value {
             return Took {
                 reader: self,
                 event: Event::Over(start),
@@ -80,44 +102,41 @@ impl Reader {
             reader: Reader {
                 place: further(self.place),
                 start: start,
-                value: (grown % 256) as u8,
+                value: value as u8,
                 begun: true,
             },
             event: Event::Nothing,
         }
     }
 
-    pub fn take(self, byte: u8) -> Took {
+    // The reader behind a byte, and what the byte brings.
+    pub fn take(self, byte: u8) -> Took
+        ensures { λ r. ⌜ r ≡ taking self byte ⌝ }
+    {
+        if is_digit(byte) {
+            return self.take_digit(byte - 48);
+        }
         if is_white(byte) {
-            let after = Reader::between(further(self.place));
-            if self.begun {
-                return Took {
-                    reader: after,
-                    event: Event::Word(self.value),
-                };
-            }
             return Took {
-                reader: after,
-                event: Event::Nothing,
+                reader: Reader {
+                    place: further(self.place),
+                    start: 0,
+                    value: 0,
+                    begun: false,
+                },
+                event: self.end(),
             };
         }
-        if byte < 48 {
-            return Took {
-                reader: self,
-                event: Event::NoDigit(self.first()),
-            };
+        Took {
+            reader: self,
+            event: Event::NoDigit(self.first()),
         }
-        if 57 < byte {
-            return Took {
-                reader: self,
-                event: Event::NoDigit(self.first()),
-            };
-        }
-        self.with_digit(byte - 48)
     }
 
     // What the end of the input brings.
-    pub fn end(self) -> Event {
+    pub fn end(self) -> Event
+        ensures { λ r. ⌜ r ≡ ending self ⌝ }
+    {
         if self.begun {
             return Event::Word(self.value);
         }
@@ -135,7 +154,9 @@ pub struct Line {
 }
 
 // Stores a byte; answers the place past it. A full room takes no more.
-pub fn put(room: &mut [u8], at: usize, byte: u8) -> usize {
+pub fn put(room: &mut [u8], at: usize, byte: u8) -> usize
+    ensures { λ r. ⌜ Puts (now (room .entry)) at (byte ∷ []) r (now (room .exit)) ⌝ }
+{
     if room.len() <= at {
         return at;
     }
@@ -144,7 +165,9 @@ pub fn put(room: &mut [u8], at: usize, byte: u8) -> usize {
 }
 
 // Stores the bytes; answers the place past them. A full room takes no more.
-pub fn put_all(room: &mut [u8], at: usize, bytes: &[u8]) -> usize {
+pub fn put_all(room: &mut [u8], at: usize, bytes: &[u8]) -> usize
+    ensures { λ r. ⌜ Puts (now (room .entry)) at (now (bytes .entry)) r (now (room .exit)) ⌝ }
+{
     let mut to = at;
     let mut i = 0;
     while i < bytes.len() {
@@ -155,7 +178,9 @@ pub fn put_all(room: &mut [u8], at: usize, bytes: &[u8]) -> usize {
 }
 
 // The decimal digits of the number, without leading zeros.
-pub fn put_number(room: &mut [u8], at: usize, number: u8) -> usize {
+pub fn put_number(room: &mut [u8], at: usize, number: u8) -> usize
+    ensures { λ r. ⌜ Puts (now (room .entry)) at (decimal number) r (now (room .exit)) ⌝ }
+{
     if number < 10 {
         return put(room, at, 48 + number);
     }
@@ -164,13 +189,14 @@ pub fn put_number(room: &mut [u8], at: usize, number: u8) -> usize {
         return put(room, to, 48 + number % 10);
     }
     let to = put(room, at, 48 + number / 100);
-    let rest = number % 100;
-    let then = put(room, to, 48 + rest / 10);
-    put(room, then, 48 + rest % 10)
+    let then = put(room, to, 48 + number / 10 % 10);
+    put(room, then, 48 + number % 10)
 }
 
 // The space between words: the first of a line has none before it.
-fn put_between(room: &mut [u8], at: usize, column: usize) -> usize {
+fn put_space(room: &mut [u8], at: usize, column: usize) -> usize
+    ensures { λ r. ⌜ Puts (now (room .entry)) at (spaceBefore column) r (now (room .exit)) ⌝ }
+{
     if column == 0 {
         return at;
     }
@@ -178,8 +204,10 @@ fn put_between(room: &mut [u8], at: usize, column: usize) -> usize {
 }
 
 // A word as it is written, sixteen to a line, where `column` words stand on the line already.
-pub fn put_word(room: &mut [u8], at: usize, column: usize, word: u8) -> Line {
-    let from = put_between(room, at, column);
+pub fn put_word(room: &mut [u8], at: usize, column: usize, word: u8) -> Line
+    ensures { λ r. ⌜ PutsWord (now (room .entry)) at column word r (now (room .exit)) ⌝ }
+{
+    let from = put_space(room, at, column);
     let to = put_number(room, from, word);
     if 15 <= column {
         return Line {
@@ -193,17 +221,21 @@ pub fn put_word(room: &mut [u8], at: usize, column: usize, word: u8) -> Line {
     }
 }
 
-// The capital hexadecimal digit of the value's lower half.
-fn hex_digit(value: u8) -> u8 {
-    let half = value % 16;
-    if half < 10 {
-        return 48 + half;
+// A capital hexadecimal digit.
+fn hex_digit(value: u8) -> u8
+    requires { ⌜ value < 16 ⌝ }
+    ensures { λ r. ⌜ r ≡ hexDigit value ⌝ }
+{
+    if value < 10 {
+        return 48 + value;
     }
-    55 + half
+    55 + value
 }
 
 // Two capital hexadecimal digits.
-pub fn put_hex(room: &mut [u8], at: usize, byte: u8) -> usize {
+pub fn put_hex(room: &mut [u8], at: usize, byte: u8) -> usize
+    ensures { λ r. ⌜ Puts (now (room .entry)) at (hexadecimal byte) r (now (room .exit)) ⌝ }
+{
     let to = put(room, at, hex_digit(byte / 16));
-    put(room, to, hex_digit(byte))
+    put(room, to, hex_digit(byte % 16))
 }
