@@ -14,7 +14,7 @@ use Rattle.numbers.specs.declared.Reader.{Reader}
 use Rattle.numbers.specs.declared.Event.the-variants.{Nothing, Word, Over, NoDigit}
 use Rattle.numbers.specs.declared.Took.{Took}
 use Rattle.numbers.specs.Reading.{isWhite, isDigit, upToWhite, Run, runsFrom, judged, Listed, listedBy, listed, listing, overAt, noDigitAt}
-use Rattle.numbers.specs.Steps.{between, freshReader, further, firstByte, ending, takingDigit, taking, telling, reading}
+use Rattle.numbers.specs.Steps.{between, freshReader, further, firstByte, endBrings, takingDigit, taking, telling, reading}
 use Rattle.numbers.proofs.DigitLaws.{Kind, digit, white, other, kind, digit-bounds}
 use Rattle.numbers.proofs.JudgedLaws.{judgedFrom, judged-from}
 
@@ -47,7 +47,7 @@ module _ (b : ℕ) (bs : List ℕ) where
   unfolding taking takingDigit
   took-over r d h = rw (d, h)
 
-  took-white : (r : Reader) → isDigit b ≡ false → isWhite b ≡ true → suc (r .place) < 2 ^ 64 → taking r b ≡ record { reader = between (r .place + 1); event = ending r }
+  took-white : (r : Reader) → isDigit b ≡ false → isWhite b ≡ true → suc (r .place) < 2 ^ 64 → taking r b ≡ record { reader = between (r .place + 1); event = endBrings r }
   unfolding taking
   took-white r d w k = rw (d, w, further-one (r .place) k)
 

@@ -76,7 +76,7 @@ unfolding isWhite
 behind-white true = refl
 behind-white false = refl
 
-lists-back : (ws : List ℕ) (i p : ℕ) → ((k : ℕ) → k < length ws → getD ws k 0 < 256) → listed (runsFrom p true (writtenFrom i ws)) ≡ record { words = ws; fault = none }
+lists-back : (ws : List ℕ) (i p : ℕ) → ((k : ℕ) → k < length ws → getD ws k 0 < 256) → listed (runsFrom p true (writtenFrom i ws)) ≡ record { values = ws; fault = none }
 unfolding listed writtenFrom runsFrom isDecimal
 lists-back [] i p h = refl
 lists-back (w ∷ ws) i p h =
@@ -88,5 +88,5 @@ lists-back (w ∷ ws) i p h =
     let rest = writtenFrom (i + 1) ws in
     rw (run-first (behind i ws) (behind-white (eqb (i % 16) 15 || isLast ws)) rest (decimal w) p begun black, value, lists-back ws (i + 1) (p + suc (length (decimal w))) (λ k b. h (suc k) (omega arith)))
 
-pub written-reads-back : (ws : List ℕ) → ((k : ℕ) → k < length ws → getD ws k 0 < 256) → listing (written ws) ≡ record { words = ws; fault = none }
+pub written-reads-back : (ws : List ℕ) → ((k : ℕ) → k < length ws → getD ws k 0 < 256) → listing (written ws) ≡ record { values = ws; fault = none }
 written-reads-back ws h = lists-back ws 0 0 h

@@ -28,8 +28,8 @@ abbrev pub firstByte : Reader → ℕ
 firstByte r = if r .begun then r .start else r .place
 
 -- what the end of the input brings, and white space too: the number that it ends, if one has begun
-abbrev pub ending : Reader → Event
-ending r = if r .begun then Word (r .value) else Nothing
+abbrev pub endBrings : Reader → Event
+endBrings r = if r .begun then Word (r .value) else Nothing
 
 -- a digit: the number's value, grown by it, must still be 255 or less
 unfoldable pub takingDigit : Reader → ℕ → Took
@@ -41,17 +41,17 @@ takingDigit r digit =
 unfoldable pub taking : Reader → ℕ → Took
 taking r byte =
     if isDigit byte then takingDigit r (byte - 48)
-    else if isWhite byte then record { reader = between (further (r .place)); event = ending r }
+    else if isWhite byte then record { reader = between (further (r .place)); event = endBrings r }
     else record { reader = r; event = NoDigit (firstByte r) }
 
 -- the words and the fault that events tell, the rest of the run behind the event
 abbrev pub telling : Event → Listed → Listed
 telling Nothing rest = rest
-telling (Word w) rest = record { words = w ∷ rest .words; fault = rest .fault }
-telling (Over place) rest = record { words = []; fault = some (overAt place) }
-telling (NoDigit place) rest = record { words = []; fault = some (noDigitAt place) }
+telling (Word w) rest = record { values = w ∷ rest .values; fault = rest .fault }
+telling (Over place) rest = record { values = []; fault = some (overAt place) }
+telling (NoDigit place) rest = record { values = []; fault = some (noDigitAt place) }
 
 -- a whole run: byte after byte up to the first fault, and then the end
 unfoldable pub reading : Reader → List ℕ → Listed
-reading r [] = telling (ending r) (record { words = []; fault = none })
+reading r [] = telling (endBrings r) (record { values = []; fault = none })
 reading r (b ∷ bs) = telling (taking r b .event) (reading (taking r b .reader) bs)

@@ -4,7 +4,7 @@ ghost use mathlib.Core.Path.{_≡_};
 ghost use mathlib.Core.List.{[], _∷_};
 ghost use Prim.Native.Nat.{_<_};
 ghost use Rattle.numbers.specs.Reading.{isWhite, isDigit};
-ghost use Rattle.numbers.specs.Steps.{freshReader, further, firstByte, ending, takingDigit, taking};
+ghost use Rattle.numbers.specs.Steps.{freshReader, further, firstByte, endBrings, takingDigit, taking};
 ghost use Rattle.numbers.specs.Writing.{Puts, decimal, hexDigit, hexadecimal, spaceBefore, PutsWord};
 
 // A reader of decimal numbers, 0 to 255, between white space: the place of the next byte, and of the number that has begun
@@ -135,7 +135,7 @@ impl Reader {
 
     // What the end of the input brings.
     pub fn end(self) -> Event
-        ensures { λ r. ⌜ r ≡ ending self ⌝ }
+        ensures { λ r. ⌜ r ≡ endBrings self ⌝ }
     {
         if self.begun {
             return Event::Word(self.value);
