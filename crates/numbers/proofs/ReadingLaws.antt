@@ -39,11 +39,11 @@ further-one p h = rw (ne-eqb p 18446744073709551615 (λ e. omega arith))
 
 module _ (b : ℕ) (bs : List ℕ) where
   -- what a byte makes of the reader
-  took-digit : (r : Reader) → isDigit b ≡ true → r .value * 10 + (b - 48) ≤ 255 → suc (r .place) < 2 ^ 64 → taking r b ≡ record { reader = within (r .place + 1) (firstByte r) (r .value * 10 + (b - 48)); event = Nothing }
+  took-digit : (r : Reader) → isDigit b ≡ true → r .value * 10 + (b - 48) ≤ 255 → suc (r .place) < 2 ^ 64 → taking r b ≡ record { reader = within (r .place + 1) (firstByte (r .begun) (r .start) (r .place)) (r .value * 10 + (b - 48)); event = Nothing }
   unfolding taking takingDigit
   took-digit r d h k = rw (d, le-ltb 255 (r .value * 10 + (b - 48)) h, further-one (r .place) k)
 
-  took-over : (r : Reader) → isDigit b ≡ true → ltb 255 (r .value * 10 + (b - 48)) ≡ true → taking r b ≡ record { reader = r; event = Over (firstByte r) }
+  took-over : (r : Reader) → isDigit b ≡ true → ltb 255 (r .value * 10 + (b - 48)) ≡ true → taking r b ≡ record { reader = r; event = Over (firstByte (r .begun) (r .start) (r .place)) }
   unfolding taking takingDigit
   took-over r d h = rw (d, h)
 
@@ -51,7 +51,7 @@ module _ (b : ℕ) (bs : List ℕ) where
   unfolding taking
   took-white r d w k = rw (d, w, further-one (r .place) k)
 
-  took-other : (r : Reader) → isDigit b ≡ false → isWhite b ≡ false → taking r b ≡ record { reader = r; event = NoDigit (firstByte r) }
+  took-other : (r : Reader) → isDigit b ≡ false → isWhite b ≡ false → taking r b ≡ record { reader = r; event = NoDigit (firstByte (r .begun) (r .start) (r .place)) }
   unfolding taking
   took-other r d w = rw (d, w)
 

@@ -1,6 +1,6 @@
--- `numbers::Reader::first` meets its contract. Assumes nothing.
-use Rattle.numbers.proofs.Reader.first.Statement.{statement}
-use Rattle.numbers.proofs.Reader.first.Tie as tie
+-- `numbers::first` meets its contract. Assumes nothing.
+use Rattle.numbers.proofs.first.Statement.{statement}
+use Rattle.numbers.proofs.first.Tie as tie
 
 returns : tie.Need-returns
 returns c = rw (c .if1 .taken)
