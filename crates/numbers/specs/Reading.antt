@@ -67,16 +67,16 @@ pub data Fault : Type 0 where
   noDigitAt : (place : ℕ) → Fault
 
 pub record Listed : Type 0 where
-  pub words : List ℕ
+  pub values : List ℕ
   pub fault : Option Fault
 
 abbrev pub listedBy : ℕ → Judged → Listed → Listed
-listedBy place (number n) rest = record { words = n ∷ rest .words; fault = rest .fault }
-listedBy place over rest = record { words = []; fault = some (overAt place) }
-listedBy place noDigit rest = record { words = []; fault = some (noDigitAt place) }
+listedBy place (number n) rest = record { values = n ∷ rest .values; fault = rest .fault }
+listedBy place over rest = record { values = []; fault = some (overAt place) }
+listedBy place noDigit rest = record { values = []; fault = some (noDigitAt place) }
 
 unfoldable pub listed : List Run → Listed
-listed [] = record { words = []; fault = none }
+listed [] = record { values = []; fault = none }
 listed (run ∷ runs) = listedBy (run .place) (judged (run .bytes)) (listed runs)
 
 abbrev pub listing : List ℕ → Listed

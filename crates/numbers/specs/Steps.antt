@@ -24,34 +24,34 @@ abbrev pub further : ℕ → ℕ
 further place = if eqb place 18446744073709551615 then place else place + 1
 
 -- the first byte of the number to which the next byte belongs
-abbrev pub firstByte : Reader → ℕ
-firstByte r = if r .begun then r .start else r .place
+abbrev pub firstByte : Bool → ℕ → ℕ → ℕ
+firstByte begun start place = if begun then start else place
 
 -- what the end of the input brings, and white space too: the number that it ends, if one has begun
-abbrev pub ending : Reader → Event
-ending r = if r .begun then Word (r .value) else Nothing
+abbrev pub endBrings : Reader → Event
+endBrings r = if r .begun then Word (r .value) else Nothing
 
 -- a digit: the number's value, grown by it, must still be 255 or less
 unfoldable pub takingDigit : Reader → ℕ → Took
 takingDigit r digit =
-    if ltb 255 (r .value * 10 + digit) then record { reader = r; event = Over (firstByte r) }
-    else record { reader = record { place = further (r .place); start = firstByte r; value = r .value * 10 + digit; begun = true }; event = Nothing }
+    if ltb 255 (r .value * 10 + digit) then record { reader = r; event = Over (firstByte (r .begun) (r .start) (r .place)) }
+    else record { reader = record { place = further (r .place); start = firstByte (r .begun) (r .start) (r .place); value = r .value * 10 + digit; begun = true }; event = Nothing }
 
 -- a byte: white space, a digit, or no digit. Where there is no number any more the reader stays as it was.
 unfoldable pub taking : Reader → ℕ → Took
 taking r byte =
     if isDigit byte then takingDigit r (byte - 48)
-    else if isWhite byte then record { reader = between (further (r .place)); event = ending r }
-    else record { reader = r; event = NoDigit (firstByte r) }
+    else if isWhite byte then record { reader = between (further (r .place)); event = endBrings r }
+    else record { reader = r; event = NoDigit (firstByte (r .begun) (r .start) (r .place)) }
 
 -- the words and the fault that events tell, the rest of the run behind the event
 abbrev pub telling : Event → Listed → Listed
 telling Nothing rest = rest
-telling (Word w) rest = record { words = w ∷ rest .words; fault = rest .fault }
-telling (Over place) rest = record { words = []; fault = some (overAt place) }
-telling (NoDigit place) rest = record { words = []; fault = some (noDigitAt place) }
+telling (Word w) rest = record { values = w ∷ rest .values; fault = rest .fault }
+telling (Over place) rest = record { values = []; fault = some (overAt place) }
+telling (NoDigit place) rest = record { values = []; fault = some (noDigitAt place) }
 
 -- a whole run: byte after byte up to the first fault, and then the end
 unfoldable pub reading : Reader → List ℕ → Listed
-reading r [] = telling (ending r) (record { words = []; fault = none })
+reading r [] = telling (endBrings r) (record { values = []; fault = none })
 reading r (b ∷ bs) = telling (taking r b .event) (reading (taking r b .reader) bs)

@@ -62,6 +62,15 @@ columnAfter column = if leb 15 column then 0 else column + 1
 abbrev pub feedAtEnd : ℕ → List ℕ
 feedAtEnd column = if eqb column 0 then [] else 10 ∷ []
 
+unfoldable pub wordByWord : ℕ → List ℕ → List ℕ
+wordByWord column [] = feedAtEnd column
+wordByWord column (w ∷ ws) = wordAt column w ++ wordByWord (columnAfter column) ws
+
 -- The promise of `put_word`.
 abbrev pub PutsWord : List ℕ → ℕ → ℕ → ℕ → Line → List ℕ → Type 0
 PutsWord room at column word r after = Puts room at (wordAt column word) (r .at) after × (r .column ≡ columnAfter column)
+
+-- words put one by one, each where the one before it ended: the room, the place and the column before and after
+pub data PutsWords : (room : List ℕ) (at column : ℕ) → List ℕ → (after : List ℕ) (at′ column′ : ℕ) → Type 0 where
+  none : {room : List ℕ} {at column : ℕ} → PutsWords room at column [] room at column
+  next : {room : List ℕ} {at column : ℕ} {w : ℕ} {ws : List ℕ} {r : Line} {mid after : List ℕ} {at′ column′ : ℕ} → PutsWord room at column w r mid → PutsWords mid (r .at) (r .column) ws after at′ column′ → PutsWords room at column (w ∷ ws) after at′ column′

@@ -4,7 +4,7 @@ ghost use mathlib.Core.Path.{_≡_};
 ghost use mathlib.Core.List.{[], _∷_};
 ghost use Prim.Native.Nat.{_<_};
 ghost use Rattle.numbers.specs.Reading.{isWhite, isDigit};
-ghost use Rattle.numbers.specs.Steps.{freshReader, further, firstByte, ending, takingDigit, taking};
+ghost use Rattle.numbers.specs.Steps.{freshReader, further, firstByte, endBrings, takingDigit, taking};
 ghost use Rattle.numbers.specs.Writing.{Puts, decimal, hexDigit, hexadecimal, spaceBefore, PutsWord};
 
 // A reader of decimal numbers, 0 to 255, between white space: the place of the next byte, and of the number that has begun
@@ -64,6 +64,17 @@ fn further(place: u64) -> u64
     place + 1
 }
 
+// The first byte of the number to which the next byte belongs, in a reader of these fields. (They are handed over one by one, since
+// the choice is then one of values: a reader would be laid into memory for it.)
+fn first(begun: bool, start: u64, place: u64) -> u64
+    ensures { λ r. ⌜ r ≡ firstByte begun start place ⌝ }
+{
+    if begun {
+        return start;
+    }
+    place
+}
+
 impl Reader {
     pub fn new() -> Self
         ensures { λ r. ⌜ r ≡ freshReader ⌝ }
@@ -76,21 +87,11 @@ impl Reader {
         }
     }
 
-    // The first byte of the number to which the next byte belongs.
-    fn first(self) -> u64
-        ensures { λ r. ⌜ r ≡ firstByte self ⌝ }
-    {
-        if self.begun {
-            return self.start;
-        }
-        self.place
-    }
-
     fn take_digit(self, digit: u8) -> Took
         requires { ⌜ digit < 10 ⌝ }
         ensures { λ r. ⌜ r ≡ takingDigit self digit ⌝ }
     {
-        let start = self.first();
+        let start = first(self.begun, self.start, self.place);
         let value = (self.value as u16) * 10 + (digit as u16);
         if 255 < value {
             return Took {
@@ -129,13 +130,13 @@ impl Reader {
         }
         Took {
             reader: self,
-            event: Event::NoDigit(self.first()),
+            event: Event::NoDigit(first(self.begun, self.start, self.place)),
         }
     }
 
     // What the end of the input brings.
     pub fn end(self) -> Event
-        ensures { λ r. ⌜ r ≡ ending self ⌝ }
+        ensures { λ r. ⌜ r ≡ endBrings self ⌝ }
     {
         if self.begun {
             return Event::Word(self.value);
