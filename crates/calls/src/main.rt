@@ -1,4 +1,5 @@
 // One public call a record, so that rooms, cases, lengths and receivers can be tried that no filter reaches (docs/FORMATS.md).
+use filters::Stream;
 use mode_b::Heard;
 use mode_b::Hearing;
 use mode_b::Phase;
@@ -9,33 +10,31 @@ use mode_b::Slot;
 use signals::Case;
 use text::Encoded;
 use text::Printed;
-ghost use mathlib.Core.Path.{_≡_};
-ghost use Prim.Native.Nat.{_+_, _<_, _≤_};
-ghost use lib.ListN.{length};
+ghost use Prim.Native.Nat.{_<_};
 
-// How a record came out: it was answered, the input ended before it, or it is none.
-pub enum Ended {
+// How a record came out: it was answered and had so many bytes, the input ended before it, or it is none, and why.
+pub enum Outcome {
     Answered(u64),
     Over,
-    Bad,
+    NoKind,
+    CutShort,
+    Room,
+    Length,
 }
 
-fn case_of(byte: u8) -> Case {
-    if byte % 2 == 0 {
-        return Case::Letters;
-    }
-    Case::Figures
+pub struct Ended {
+    pub stream: Stream,
+    pub outcome: Outcome,
 }
 
-fn write_case(case: Case) {
-    match case {
-        Case::Letters => {
-            io::write_all(1, b"letters");
-        }
-        Case::Figures => {
-            io::write_all(1, b"figures");
-        }
-    }
+// The place of the next record, and whether there is none.
+pub struct Next {
+    pub place: u64,
+    pub done: bool,
+}
+
+fn ended(stream: Stream, outcome: Outcome) -> Ended {
+    Ended { stream, outcome }
 }
 
 fn wide(byte: u8) -> usize
@@ -50,71 +49,39 @@ fn two_bytes(low: u8, high: u8) -> usize
     wide(high) * 256 + wide(low)
 }
 
-fn digit(value: u8) -> u8
-    requires { ⌜ value < 16 ⌝ }
-{
-    if value < 10 {
-        return 48 + value;
-    }
-    55 + value
-}
-
-// Puts two capital hexadecimal digits for each byte into the line; answers how many digits.
-fn spell(bytes: &[u8], line: &mut [u8]) -> usize
-    requires { ⌜ length (now bytes) + length (now bytes) ≤ length (now line) ⌝ }
-    ensures { λ r. ⌜ r ≡ length (now (bytes .entry)) + length (now (bytes .entry)) ⌝ }
-{
-    let mut i = 0;
-    while i < bytes.len() {
-        let byte = bytes[i];
-        line[i + i] = digit(byte / 16 % 16);
-        line[i + i + 1] = digit(byte % 16);
-        i += 1;
-    }
-    i + i
-}
-
-// The whole of the lent room, or - where it has no length, and the line's end. No room here is over 8,192 bytes.
-fn write_room(room: &[u8]) {
-    io::write_all(1, b" ");
+// The whole of the lent room, or - where it has no length, and the line's end.
+fn put_room(stream: Stream, output: &mut [u8], room: &[u8]) -> Stream {
     if room.len() == 0 {
-        io::write_all(1, b"-");
+        return stream.put_all(output, b" -\n");
     }
-    if room.len() <= 8192 {
-        let mut line = [0u8; 16384];
-        let digits = spell(room, &mut line);
-        io::write_all(1, &line[..digits]);
-    }
-    io::write_all(1, b"\n");
+    stream.put(output, 32).put_hex(output, room).put(output, 10)
 }
 
-fn write_ok(written: usize, ends: Case) {
-    io::write_all(1, b"ok ");
-    io::print_decimal(1, written as u64);
-    io::write_all(1, b" ");
-    write_case(ends);
+fn put_ok(stream: Stream, output: &mut [u8], written: usize, ends: Case) -> Stream {
+    let mut line = [0u8; 16];
+    let at = fields::put_case(&mut line, 0, ends);
+    stream
+        .put_all(output, b"ok ")
+        .put_decimal(output, written as u64)
+        .put_line(output, &line, at)
 }
 
-fn encode(text: &[u8], case: Case, room: &mut [u8]) {
-    let answer = encoding::encode(text, case, room);
+fn put_encoded(stream: Stream, output: &mut [u8], answer: Encoded) -> Stream {
     match answer {
-        Encoded::Written { count, ends } => write_ok(count, ends),
-        Encoded::TooLong => filters::write_refusal(1, 5, 4096),
-        Encoded::NoSignal(index) => filters::write_refusal(1, 1, index as u64),
-        Encoded::NoRoom(needed) => filters::write_refusal(1, 2, needed as u64),
+        Encoded::Written { count, ends } => put_ok(stream, output, count, ends),
+        Encoded::TooLong => stream.put_refusal(output, 5, 4096),
+        Encoded::NoSignal(index) => stream.put_refusal(output, 1, index as u64),
+        Encoded::NoRoom(needed) => stream.put_refusal(output, 2, needed as u64),
     }
-    write_room(room);
 }
 
-fn print(words: &[u8], case: Case, room: &mut [u8]) {
-    let answer = printing::print(words, case, room);
+fn put_printed(stream: Stream, output: &mut [u8], answer: Printed) -> Stream {
     match answer {
-        Printed::Written { count, ends } => write_ok(count, ends),
-        Printed::TooLong => filters::write_refusal(1, 7, 8192),
-        Printed::BadWord(index) => filters::write_refusal(1, 3, index as u64),
-        Printed::NoRoom(needed) => filters::write_refusal(1, 2, needed as u64),
+        Printed::Written { count, ends } => put_ok(stream, output, count, ends),
+        Printed::TooLong => stream.put_refusal(output, 7, 8192),
+        Printed::BadWord(index) => stream.put_refusal(output, 3, index as u64),
+        Printed::NoRoom(needed) => stream.put_refusal(output, 2, needed as u64),
     }
-    write_room(room);
 }
 
 fn fill(room: &mut [u8]) {
@@ -132,106 +99,146 @@ fn past(place: u64, bytes: u64) -> u64 {
     place + bytes
 }
 
-// Reads the list, fills the room and makes the call.
-fn answer(kind: u8, case: Case, list: &mut [u8], room: &mut [u8]) -> Ended {
-    let read = io::read_full(0, list);
-    if read != list.len() {
-        return Ended::Bad;
-    }
+// Fills the room, makes the call, and puts what it gives.
+fn call(
+    stream: Stream,
+    output: &mut [u8],
+    kind: u8,
+    case: Case,
+    list: &[u8],
+    room: &mut [u8],
+) -> Stream {
     fill(room);
-    let bytes = past(6, list.len() as u64);
     if kind == b'E' {
-        encode(list, case, room);
-        return Ended::Answered(bytes);
+        let answer = encoding::encode(list, case, room);
+        return put_room(put_encoded(stream, output, answer), output, room);
     }
-    print(list, case, room);
-    Ended::Answered(bytes)
+    let answer = printing::print(list, case, room);
+    put_room(put_printed(stream, output, answer), output, room)
+}
+
+// Reads the list and makes the call.
+fn answer(
+    stream: Stream,
+    input: &mut [u8],
+    output: &mut [u8],
+    kind: u8,
+    case: Case,
+    list: &mut [u8],
+    room: &mut [u8],
+) -> Ended {
+    let read = stream.record(input, output, list);
+    let after = read.stream;
+    if read.count != list.len() {
+        return ended(after, Outcome::CutShort);
+    }
+    Ended {
+        stream: call(after, output, kind, case, list, room),
+        outcome: Outcome::Answered(past(6, list.len() as u64)),
+    }
 }
 
 // The rest of a record of kind E or P: case, room, length, and the list. `list` and `room` are as long as a record may ask.
-fn with_room(kind: u8, list: &mut [u8], room: &mut [u8]) -> Ended {
+fn with_room(
+    stream: Stream,
+    input: &mut [u8],
+    output: &mut [u8],
+    kind: u8,
+    list: &mut [u8],
+    room: &mut [u8],
+) -> Ended {
     let mut head = [0u8; 5];
-    let got = io::read_full(0, &mut head);
-    if got != 5 {
-        return Ended::Bad;
+    let read = stream.record(input, output, &mut head);
+    let after = read.stream;
+    if read.count != 5 {
+        return ended(after, Outcome::CutShort);
     }
-    let case = case_of(head[0]);
+    let case = fields::case_of(head[0]);
     let size = two_bytes(head[1], head[2]);
     let length = two_bytes(head[3], head[4]);
     if room.len() < size {
-        return Ended::Bad;
+        return ended(after, Outcome::Room);
     }
     if list.len() < length {
-        return Ended::Bad;
+        return ended(after, Outcome::Length);
     }
-    answer(kind, case, &mut list[..length], &mut room[..size])
+    answer(
+        after,
+        input,
+        output,
+        kind,
+        case,
+        &mut list[..length],
+        &mut room[..size],
+    )
 }
 
 fn four_bytes(head: &[u8; 6]) -> usize {
     two_bytes(head[2], head[3]) * 65536 + two_bytes(head[0], head[1])
 }
 
-// Reads the text and asks for the slot.
-fn answer_slot(text: &mut [u8], number: usize) -> Ended {
-    let read = io::read_full(0, text);
-    if read != text.len() {
-        return Ended::Bad;
-    }
-    let bytes = past(7, text.len() as u64);
-    let slot = sending::slot(text, number);
+fn put_slot(stream: Stream, output: &mut [u8], slot: Slot) -> Stream {
     match slot {
-        Slot::Word(word) => {
-            io::write_all(1, b"ok ");
-            io::print_decimal(1, word as u64);
-        }
-        Slot::TooLong => filters::write_refusal(1, 7, 8192),
-        Slot::BadWord(index) => filters::write_refusal(1, 3, index as u64),
-        Slot::PastLast(slots) => filters::write_refusal(1, 6, slots as u64),
+        Slot::Word(word) => stream
+            .put_all(output, b"ok ")
+            .put_decimal(output, word as u64),
+        Slot::TooLong => stream.put_refusal(output, 7, 8192),
+        Slot::BadWord(index) => stream.put_refusal(output, 3, index as u64),
+        Slot::PastLast(slots) => stream.put_refusal(output, 6, slots as u64),
     }
-    io::write_all(1, b"\n");
-    Ended::Answered(bytes)
+}
+
+// Reads the text and asks for the slot.
+fn answer_slot(
+    stream: Stream,
+    input: &mut [u8],
+    output: &mut [u8],
+    text: &mut [u8],
+    number: usize,
+) -> Ended {
+    let read = stream.record(input, output, text);
+    let after = read.stream;
+    if read.count != text.len() {
+        return ended(after, Outcome::CutShort);
+    }
+    Ended {
+        stream: put_slot(after, output, sending::slot(text, number)).put(output, 10),
+        outcome: Outcome::Answered(past(7, text.len() as u64)),
+    }
 }
 
 // The rest of a record of kind S: slot number, length, and the text.
-fn with_slot(list: &mut [u8]) -> Ended {
+fn with_slot(stream: Stream, input: &mut [u8], output: &mut [u8], list: &mut [u8]) -> Ended {
     let mut head = [0u8; 6];
-    let got = io::read_full(0, &mut head);
-    if got != 6 {
-        return Ended::Bad;
+    let read = stream.record(input, output, &mut head);
+    let after = read.stream;
+    if read.count != 6 {
+        return ended(after, Outcome::CutShort);
     }
     let number = four_bytes(&head);
     let length = two_bytes(head[4], head[5]);
     if list.len() < length {
-        return Ended::Bad;
+        return ended(after, Outcome::Length);
     }
-    answer_slot(&mut list[..length], number)
-}
-
-// A space and the number.
-fn write_number(number: u8) {
-    io::write_all(1, b" ");
-    io::print_decimal(1, number as u64);
-}
-
-fn write_flag(flag: bool) {
-    if flag {
-        write_number(1);
-        return;
-    }
-    write_number(0);
+    answer_slot(after, input, output, &mut list[..length], number)
 }
 
 // The rest of a record of kind M: the byte.
-fn with_byte() -> Ended {
+fn with_byte(stream: Stream, input: &mut [u8], output: &mut [u8]) -> Ended {
     let mut byte = [0u8; 1];
-    let got = io::read_full(0, &mut byte);
-    if got != 1 {
-        return Ended::Bad;
+    let read = stream.record(input, output, &mut byte);
+    let after = read.stream;
+    if read.count != 1 {
+        return ended(after, Outcome::CutShort);
     }
-    io::print_decimal(1, signals::meaning(byte[0]) as u64);
-    write_flag(signals::intact(byte[0]));
-    io::write_all(1, b"\n");
-    Ended::Answered(2)
+    let mut line = [0u8; 16];
+    let mut at = numbers::put_number(&mut line, 0, signals::meaning(byte[0]));
+    at = fields::put_flag(&mut line, at, signals::intact(byte[0]));
+    at = numbers::put(&mut line, at, 10);
+    Ended {
+        stream: after.put_line(output, &line, at),
+        outcome: Outcome::Answered(2),
+    }
 }
 
 fn phasing_of(byte: u8) -> Phasing {
@@ -260,116 +267,157 @@ fn receiver_of(record: &[u8; 10]) -> Receiver {
 }
 
 // The run, and its last signal: a run of 0 has none.
-fn write_searching(run: u8, last: Phasing) {
-    io::write_all(1, b"searching");
-    write_number(run);
+fn put_searching(line: &mut [u8], run: u8, last: Phasing) -> usize {
+    let mut at = numbers::put_all(line, 0, b"searching");
+    at = fields::put_number(line, at, run);
     if run == 0 {
-        io::write_all(1, b" none");
-        return;
+        return numbers::put_all(line, at, b" none");
     }
     match last {
-        Phasing::One => {
-            io::write_all(1, b" alpha");
-        }
-        Phasing::Two => {
-            io::write_all(1, b" RQ");
-        }
+        Phasing::One => numbers::put_all(line, at, b" alpha"),
+        Phasing::Two => numbers::put_all(line, at, b" RQ"),
     }
 }
 
-fn write_numbers(first: u8, second: u8, third: u8) {
-    write_number(first);
-    write_number(second);
-    write_number(third);
-}
-
-// The DX words, the next slot, whether printing has begun, and a wait of 0. Where a DX slot comes next, the oldest word is settled.
-fn write_phase(p: Phase) {
-    io::write_all(1, b"phase");
+// The oldest DX word: where a DX slot comes next, it is settled.
+fn oldest(p: Phase) -> u8 {
     if p.dx {
-        write_numbers(0, p.second, p.third);
-        io::write_all(1, b" dx");
-    } else {
-        write_numbers(p.first, p.second, p.third);
-        io::write_all(1, b" rx");
+        return 0;
     }
-    write_flag(p.printing);
-    write_number(0);
+    p.first
 }
 
-fn write_heard(heard: Heard) {
-    let receiver = heard.receiver;
+fn put_next(line: &mut [u8], at: usize, dx: bool) -> usize {
+    if dx {
+        return numbers::put_all(line, at, b" dx");
+    }
+    numbers::put_all(line, at, b" rx")
+}
+
+// The DX words, the next slot, whether printing has begun, and a wait of 0.
+fn put_phase(line: &mut [u8], p: Phase) -> usize {
+    let mut at = numbers::put_all(line, 0, b"phase");
+    at = fields::put_number(line, at, oldest(p));
+    at = fields::put_number(line, at, p.second);
+    at = fields::put_number(line, at, p.third);
+    at = put_next(line, at, p.dx);
+    at = fields::put_flag(line, at, p.printing);
+    numbers::put_all(line, at, b" 0")
+}
+
+fn put_hearing(line: &mut [u8], receiver: Receiver) -> usize {
     let hearing = receiver.hearing;
     match hearing {
-        Hearing::Searching(run, last) => write_searching(run, last),
-        Hearing::InPhase(p) => write_phase(p),
+        Hearing::Searching(run, last) => put_searching(line, run, last),
+        Hearing::InPhase(p) => put_phase(line, p),
     }
-    io::write_all(1, b" |");
-    write_number(heard.printed);
+}
+
+fn put_heard(stream: Stream, output: &mut [u8], heard: Heard) -> Stream {
+    let receiver = heard.receiver;
+    let mut line = [0u8; 64];
+    let mut at = put_hearing(&mut line, receiver);
+    at = numbers::put_all(&mut line, at, b" |");
+    at = fields::put_number(&mut line, at, heard.printed);
+    at = numbers::put(&mut line, at, 10);
+    stream.put_line(output, &line, at)
 }
 
 // The rest of a record of kind R: the receiver, and the word that it hears.
-fn with_receiver() -> Ended {
+fn with_receiver(stream: Stream, input: &mut [u8], output: &mut [u8]) -> Ended {
     let mut record = [0u8; 10];
-    let got = io::read_full(0, &mut record);
-    if got != 10 {
-        return Ended::Bad;
+    let read = stream.record(input, output, &mut record);
+    let after = read.stream;
+    if read.count != 10 {
+        return ended(after, Outcome::CutShort);
     }
     let received = receiving::receive(receiver_of(&record), record[9]);
     match received {
-        Received::Done(heard) => write_heard(heard),
-        Received::BadReceiver(_) => filters::write_refusal(1, 4, 0),
+        Received::Done(heard) => Ended {
+            stream: put_heard(after, output, heard),
+            outcome: Outcome::Answered(11),
+        },
+        Received::BadReceiver(_) => Ended {
+            stream: after.put_all(output, b"refused 4 0\n"),
+            outcome: Outcome::Answered(11),
+        },
     }
-    io::write_all(1, b"\n");
-    Ended::Answered(11)
 }
 
-fn record(list: &mut [u8], room: &mut [u8]) -> Ended {
-    let mut kind = [0u8; 1];
-    let got = io::read_full(0, &mut kind);
-    if got == 0 {
-        return Ended::Over;
+fn record(
+    stream: Stream,
+    input: &mut [u8],
+    output: &mut [u8],
+    list: &mut [u8],
+    room: &mut [u8],
+) -> Ended {
+    let got = stream.byte(input, output);
+    let after = got.stream;
+    if !got.more {
+        return ended(after, Outcome::Over);
     }
-    if kind[0] == b'E' {
-        return with_room(b'E', list, room);
+    match got.byte {
+        b'E' | b'P' => with_room(after, input, output, got.byte, list, room),
+        b'S' => with_slot(after, input, output, list),
+        b'M' => with_byte(after, input, output),
+        b'R' => with_receiver(after, input, output),
+        _ => ended(after, Outcome::NoKind),
     }
-    if kind[0] == b'P' {
-        return with_room(b'P', list, room);
-    }
-    if kind[0] == b'S' {
-        return with_slot(list);
-    }
-    if kind[0] == b'M' {
-        return with_byte();
-    }
-    if kind[0] == b'R' {
-        return with_receiver();
-    }
-    Ended::Bad
 }
 
-fn records(list: &mut [u8], room: &mut [u8]) {
-    let mut place: u64 = 0;
-    let mut turns = u64::MAX;
-    while turns > 0 {
-        match record(list, room) {
-            Ended::Answered(bytes) => {
-                place = past(place, bytes);
-            }
-            Ended::Over => {
-                return;
-            }
-            Ended::Bad => {
-                filters::tell_place(b"bad record at ", place);
-                return;
-            }
+// Writes what waits, and tells why there is no record at the place. Where reading or writing has failed, that is told instead.
+fn tell(stream: Stream, output: &[u8], place: u64, why: &[u8]) {
+    let flushed = stream.flush(output);
+    if flushed.unread {
+        flushed.finish(output, b"calls");
+        return;
+    }
+    if flushed.unwritten {
+        flushed.finish(output, b"calls");
+        return;
+    }
+    filters::tell_place(b"calls", b"bad record at ", place, why);
+}
+
+// The place behind the record that was answered; or the program ends.
+fn behind(ended: Ended, output: &[u8], place: u64) -> Next {
+    let stream = ended.stream;
+    let outcome = ended.outcome;
+    match outcome {
+        Outcome::Answered(bytes) => {
+            return Next {
+                place: past(place, bytes),
+                done: false,
+            };
         }
-        turns -= 1;
+        Outcome::Over => stream.finish(output, b"calls"),
+        Outcome::NoKind => tell(stream, output, place, b"no such kind"),
+        Outcome::CutShort => tell(stream, output, place, b"cut short"),
+        Outcome::Room => tell(stream, output, place, b"a room over 8192"),
+        Outcome::Length => tell(stream, output, place, b"a length over 8193"),
     }
+    Next { place, done: true }
 }
 
 fn main() {
+    if filters::has_words(b"calls") {
+        return;
+    }
+    let mut input = [0u8; 4096];
+    let mut output = [0u8; 4096];
     let mut list = [0u8; 8193];
     let mut room = [0u8; 8192];
-    records(&mut list, &mut room);
+    let mut stream = Stream::new();
+    let mut place: u64 = 0;
+    let mut turns = u64::MAX;
+    while turns > 0 {
+        let ended = record(stream, &mut input, &mut output, &mut list, &mut room);
+        let next = behind(ended, &output, place);
+        if next.done {
+            return;
+        }
+        stream = ended.stream;
+        place = next.place;
+        turns -= 1;
+    }
 }

@@ -362,6 +362,18 @@ impl Stream {
         stream
     }
 
+    // The first `count` bytes of a line, which is shorter than the output room.
+    pub fn put_line(self, output: &mut [u8], line: &[u8], count: usize) -> Self {
+        if line.len() < count {
+            return self;
+        }
+        let stream = self.with_room(output, count);
+        let column = stream.column;
+        let unwritten = stream.unwritten;
+        let at = numbers::put_all(output, stream.waiting, &line[..count]);
+        stream.with_output(at, column, unwritten)
+    }
+
     // A word as it is written, sixteen to a line.
     pub fn put_word(self, output: &mut [u8], word: u8) -> Self {
         if has_room(output, self.waiting, numbers::LONGEST) {
