@@ -359,9 +359,17 @@ impl Stream {
     }
 
     pub fn put_all(self, output: &mut [u8], bytes: &[u8]) -> Self {
+        self.put_first(output, bytes, bytes.len())
+    }
+
+    // The first `count` of the bytes.
+    pub fn put_first(self, output: &mut [u8], bytes: &[u8], count: usize) -> Self {
         let mut stream = self;
         let mut i = 0;
         while i < bytes.len() {
+            if count <= i {
+                return stream;
+            }
             stream = stream.put(output, bytes[i]);
             i += 1;
         }

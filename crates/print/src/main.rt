@@ -7,11 +7,9 @@ use text::Printed;
 fn tell(stream: Stream, output: &mut [u8], answer: Printed, room: &[u8]) {
     match answer {
         Printed::Written { count, ends: _ } => {
-            if count <= room.len() {
-                stream
-                    .put_all(output, &room[..count])
-                    .finish(output, b"print");
-            }
+            stream
+                .put_first(output, room, count)
+                .finish(output, b"print");
         }
         Printed::TooLong => filters::tell_refusal(b"print", 7, 8192, b"over ", b" signals"),
         Printed::BadWord(index) => filters::tell_refusal(

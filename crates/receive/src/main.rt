@@ -1,22 +1,8 @@
 // A fresh receiver of mode B hears the words that standard input lists as numbers, and writes what it prints (docs/FORMATS.md).
 use filters::Number;
 use filters::Stream;
-use mode_b::Heard;
 use mode_b::Received;
 use mode_b::Receiver;
-
-// A word heard.
-fn heard(before: Receiver, word: u8) -> Heard {
-    let received = receiving::receive(before, word);
-    match received {
-        Received::Done(answer) => answer,
-        // not reached: a receiver that has answered is sound
-        Received::BadReceiver(receiver) => Heard {
-            receiver,
-            printed: 0,
-        },
-    }
-}
 
 fn print(stream: Stream, output: &mut [u8], printed: u8) -> Stream {
     if printed == 0 {
@@ -47,9 +33,18 @@ fn main() {
         let number = got.number;
         match number {
             Number::Word(word) => {
-                let answer = heard(receiver, word);
-                receiver = answer.receiver;
-                stream = print(stream, &mut output, answer.printed);
+                let received = receiving::receive(receiver, word);
+                match received {
+                    Received::Done(heard) => {
+                        receiver = heard.receiver;
+                        stream = print(stream, &mut output, heard.printed);
+                    }
+                    // not reached: a receiver that has answered is sound
+                    Received::BadReceiver(_) => {
+                        stop(stream, &mut output, Number::End);
+                        return;
+                    }
+                }
             }
             Number::End | Number::Over(_) | Number::NoDigit(_) => {
                 stop(stream, &mut output, number);

@@ -2,23 +2,23 @@
 use filters::Stream;
 use mode_b::Slot;
 
-// How writing goes on, and whether there is no further slot.
-pub struct Written {
+// How it goes on, and whether there is no further slot.
+pub struct Put {
     pub stream: Stream,
-    pub done: bool,
+    pub last: bool,
 }
 
-// Writes one slot. A refusal comes at the first.
-fn write_slot(stream: Stream, output: &mut [u8], text: &[u8], number: usize) -> Written {
+// A slot's word put. A refusal comes at the first slot.
+fn put_slot(stream: Stream, output: &mut [u8], text: &[u8], number: usize) -> Put {
     let slot = sending::slot(text, number);
     match slot {
-        Slot::Word(word) => Written {
+        Slot::Word(word) => Put {
             stream: stream.put_word(output, word),
-            done: false,
+            last: false,
         },
         Slot::TooLong => {
             filters::tell_refusal(b"send", 7, 8192, b"over ", b" signals");
-            Written { stream, done: true }
+            Put { stream, last: true }
         }
         Slot::BadWord(index) => {
             filters::tell_refusal(
@@ -28,25 +28,25 @@ fn write_slot(stream: Stream, output: &mut [u8], text: &[u8], number: usize) -> 
                 b"the word at index ",
                 b" is not traffic",
             );
-            Written { stream, done: true }
+            Put { stream, last: true }
         }
-        Slot::PastLast(_) => Written { stream, done: true },
+        Slot::PastLast(_) => Put { stream, last: true },
     }
 }
 
-// Writes every slot, up to a number that no sending reaches.
-fn write_slots(first: Stream, output: &mut [u8], text: &[u8]) {
+// Every slot's word put, up to a number that no sending reaches.
+fn put_slots(first: Stream, output: &mut [u8], text: &[u8]) -> Stream {
     let mut stream = first;
     let mut number = 0;
     while number < 65536 {
-        let written = write_slot(stream, output, text, number);
-        stream = written.stream;
-        if written.done {
-            stream.end_line(output).finish(output, b"send");
-            return;
+        let put = put_slot(stream, output, text, number);
+        stream = put.stream;
+        if put.last {
+            return stream;
         }
         number += 1;
     }
+    stream
 }
 
 fn main() {
@@ -67,5 +67,7 @@ fn main() {
     if stream.failed(b"send") {
         return;
     }
-    write_slots(stream, &mut output, &words[..count]);
+    put_slots(stream, &mut output, &words[..count])
+        .end_line(&mut output)
+        .finish(&output, b"send");
 }
