@@ -1,4 +1,5 @@
 // Runs one call many times on pseudo-random input and writes a check-sum of its answers (docs/COST.md, docs/FORMATS.md).
+use filters::Stream;
 use mode_a::Offer;
 use mode_a::Place;
 use mode_a::Reply;
@@ -142,61 +143,91 @@ fn is_digit(byte: u8) -> bool {
     byte < 58
 }
 
-// The number that starts at or behind `from`; 0 where none does.
-fn number_from(bytes: &[u8], from: usize) -> u64 {
+// The number that starts at a place, 0 where none does, and the place behind it and one byte more.
+pub struct Parsed {
+    pub value: u64,
+    pub next: usize,
+}
+
+fn number_from(bytes: &[u8], from: usize) -> Parsed {
     let mut value: u64 = 0;
     let mut i = from;
     while i < bytes.len() {
         if !is_digit(bytes[i]) {
-            return value;
+            return Parsed { value, next: i + 1 };
         }
         value = (value % 1000000000000000) * 10 + ((bytes[i] % 16) as u64);
         i += 1;
     }
-    value
+    Parsed { value, next: i }
 }
 
-// The place behind the number that starts at `from`, and behind one byte more.
-fn behind(bytes: &[u8], from: usize) -> usize {
-    let mut i = from;
-    while i < bytes.len() {
-        if !is_digit(bytes[i]) {
-            return i + 1;
-        }
-        i += 1;
-    }
-    i
-}
-
-fn wanted_in(bytes: &[u8]) -> Asked {
-    let second = behind(bytes, 0);
-    let third = behind(bytes, second);
-    let length = number_from(bytes, third);
+fn asked_in(bytes: &[u8]) -> Asked {
+    let call = number_from(bytes, 0);
+    let times = number_from(bytes, call.next);
+    let length = number_from(bytes, times.next);
     Asked {
-        call: number_from(bytes, 0),
-        times: number_from(bytes, second),
-        length: if length < 8192 { length as usize } else { 8192 },
+        call: call.value,
+        times: times.value,
+        length: if length.value < 8192 {
+            length.value as usize
+        } else {
+            8192
+        },
     }
 }
 
-// Stores a byte, where there is room for it.
-fn put(room: &mut [u8], at: usize, byte: u8) {
-    if at < room.len() {
-        room[at] = byte;
+// What a room is filled with: any bytes, characters, traffic signals with an error mark once in a while, traffic signals alone,
+// or the plan of 4,096 steps.
+pub enum Made {
+    Bytes,
+    Characters,
+    Words,
+    Traffic,
+    Plan,
+}
+
+// The plan has five bytes a step: which word of the burst on the way is damaged (none where it is 3 or more), a kind of offer, and
+// three words for a text.
+fn planned(g: u64, j: usize) -> u8 {
+    match j % 5 {
+        0 => (drawn(g, 16) % 16) as u8,
+        1 => (drawn(g, 8) % 8) as u8,
+        _ => TRAFFIC[drawn(g, 32) % 32],
     }
+}
+
+fn word_drawn(g: u64) -> u8 {
+    let at = drawn(g, 33);
+    if at < 32 {
+        return TRAFFIC[at];
+    }
+    255
+}
+
+fn made(what: Made, g: u64, j: usize) -> u8 {
+    match what {
+        Made::Bytes => (drawn(g, 256) % 256) as u8,
+        Made::Characters => ALPHABET[drawn(g, 52) % 52],
+        Made::Words => word_drawn(g),
+        Made::Traffic => TRAFFIC[drawn(g, 32) % 32],
+        Made::Plan => planned(g, j),
+    }
+}
+
+// Fills the room, and answers the last number drawn.
+fn fill(room: &mut [u8], what: Made) -> u64 {
+    let mut g: u64 = 625;
+    let mut j = 0;
+    while j < room.len() {
+        g = next(g);
+        numbers::put(room, j, made(what, g, j));
+        j += 1;
+    }
+    g
 }
 
 // --- meaning ---
-
-fn fill(input: &mut [u8]) {
-    let mut g: u64 = 625;
-    let mut j = 0;
-    while j < input.len() {
-        g = next(g);
-        put(input, j, (drawn(g, 256) % 256) as u8);
-        j += 1;
-    }
-}
 
 fn meaning_often(times: u64, input: &[u8; 4096]) -> u64 {
     let mut sum: u64 = 0;
@@ -210,7 +241,7 @@ fn meaning_often(times: u64, input: &[u8; 4096]) -> u64 {
 
 fn run_meaning(times: u64) -> u64 {
     let mut input = [0u8; 4096];
-    fill(&mut input);
+    fill(&mut input, Made::Bytes);
     meaning_often(times, &input)
 }
 
@@ -264,16 +295,6 @@ fn mix_printed(sum: u64, answer: Printed, room: &[u8]) -> u64 {
     }
 }
 
-fn fill_text(text: &mut [u8]) {
-    let mut g: u64 = 625;
-    let mut j = 0;
-    while j < text.len() {
-        g = next(g);
-        put(text, j, ALPHABET[drawn(g, 52) % 52]);
-        j += 1;
-    }
-}
-
 fn encode_often(times: u64, text: &[u8], room: &mut [u8], from: u64) -> u64 {
     let mut sum = from;
     let mut i: u64 = 0;
@@ -298,30 +319,11 @@ fn encode_refused() -> u64 {
 fn run_encode(times: u64, length: usize) -> u64 {
     let mut text = [0u8; 8192];
     let mut room = [0u8; 8192];
-    fill_text(&mut text);
+    fill(&mut text, Made::Characters);
     if 8192 < length {
         return 0;
     }
     encode_often(times, &text[..length], &mut room, encode_refused())
-}
-
-// A traffic signal, or once in a while the error mark.
-fn word_drawn(g: u64) -> u8 {
-    let at = drawn(g, 33);
-    if at < 32 {
-        return TRAFFIC[at];
-    }
-    255
-}
-
-fn fill_words(words: &mut [u8]) {
-    let mut g: u64 = 625;
-    let mut j = 0;
-    while j < words.len() {
-        g = next(g);
-        put(words, j, word_drawn(g));
-        j += 1;
-    }
 }
 
 fn print_often(times: u64, words: &[u8], room: &mut [u8], from: u64) -> u64 {
@@ -348,7 +350,7 @@ fn print_refused() -> u64 {
 fn run_print(times: u64, length: usize) -> u64 {
     let mut words = [0u8; 8192];
     let mut room = [0u8; 8192];
-    fill_words(&mut words);
+    fill(&mut words, Made::Words);
     if 8192 < length {
         return 0;
     }
@@ -371,47 +373,12 @@ fn offer_of(j: usize, kind: u8, words: Words) -> Offer {
     Offer::Nothing
 }
 
-// The plan of 4,096 steps, five bytes each: which word of the burst on the way is damaged (none where it is 3 or more), a kind of
-// offer, and three words for a text.
-fn planned(g: u64, j: usize) -> u8 {
-    match j % 5 {
-        0 => (drawn(g, 16) % 16) as u8,
-        1 => (drawn(g, 8) % 8) as u8,
-        _ => TRAFFIC[drawn(g, 32) % 32],
-    }
-}
-
-fn plan(steps: &mut [u8]) {
-    let mut g: u64 = 625;
-    let mut j = 0;
-    while j < steps.len() {
-        g = next(g);
-        put(steps, j, planned(g, j));
-        j += 1;
-    }
-}
-
 fn damaged(burst: Words, damage: u8) -> Words {
     match damage {
         0 => Words(0, burst.1, burst.2),
         1 => Words(burst.0, 0, burst.2),
         2 => Words(burst.0, burst.1, 0),
         _ => burst,
-    }
-}
-
-fn place_no(place: Place) -> u64
-    ensures { λ r. ⌜ r < 8 ⌝ }
-{
-    match place {
-        Place::Sending(_) => 0,
-        Place::Turning(_) => 1,
-        Place::Opening => 2,
-        Place::Ending(_) => 3,
-        Place::Receiving(_) => 4,
-        Place::Asking => 5,
-        Place::StandBy => 6,
-        Place::Lost => 7,
     }
 }
 
@@ -426,30 +393,12 @@ fn mix_reply(sum: u64, reply: Reply) -> u64 {
     let place = station.place;
     let sent = reply.sent;
     let printed = reply.printed;
-    let no = place_no(place);
+    let no = fields::place_no(place);
     let told = mix(sum, packed(sent));
     if reply.taken {
         return mix(told, packed(printed) + 16777216 * (2 * no + 1));
     }
     mix(told, packed(printed) + 16777216 * (2 * no))
-}
-
-// A refusal sends and prints nothing.
-fn reply_of(stepped: Stepped) -> Reply {
-    match stepped {
-        Stepped::Done(reply) => reply,
-        Stepped::BadStation(s) => silent(s),
-        Stepped::BadWord(_, s) => silent(s),
-    }
-}
-
-fn silent(s: Station) -> Reply {
-    Reply {
-        station: s,
-        sent: mode_a::SILENCE,
-        printed: mode_a::SILENCE,
-        taken: false,
-    }
 }
 
 fn mix_refused(sum: u64, stepped: Stepped) -> u64 {
@@ -481,7 +430,7 @@ fn exchanged(pair: Pair, damage: u8, offer: Offer) -> Pair {
     let hearer = pair.hearer;
     let sender = pair.sender;
     let burst = pair.burst;
-    let reply = reply_of(station::step(hearer, damaged(burst, damage), offer));
+    let reply = fields::reply_of(station::step(hearer, damaged(burst, damage), offer));
     let after = reply.station;
     let sent = reply.sent;
     Pair {
@@ -512,7 +461,7 @@ fn step_often(times: u64, steps: &[u8], from: u64) -> u64 {
 
 fn run_step(times: u64) -> u64 {
     let mut steps = [0u8; 20480];
-    plan(&mut steps);
+    fill(&mut steps, Made::Plan);
     let unsound = Station {
         role: Role::Master,
         place: Place::Opening,
@@ -534,17 +483,6 @@ fn run_step(times: u64) -> u64 {
 }
 
 // --- slot ---
-
-fn fill_traffic(text: &mut [u8], from: u64) -> u64 {
-    let mut g = from;
-    let mut j = 0;
-    while j < text.len() {
-        g = next(g);
-        put(text, j, TRAFFIC[drawn(g, 32) % 32]);
-        j += 1;
-    }
-    g
-}
 
 fn mix_slot(sum: u64, slot: Slot) -> u64 {
     match slot {
@@ -591,7 +529,7 @@ fn slot_often(times: u64, text: &[u8]) -> u64 {
 
 fn run_slot(times: u64, length: usize) -> u64 {
     let mut text = [0u8; 8192];
-    fill_traffic(&mut text, 625);
+    fill(&mut text, Made::Traffic);
     if 8192 < length {
         return 0;
     }
@@ -622,7 +560,7 @@ fn broadcast(stream: &mut [u8], text: &[u8], from: u64) {
     let mut k = 0;
     while k < stream.len() {
         g = next(g);
-        put(stream, k, heard(g, text, k));
+        numbers::put(stream, k, heard(g, text, k));
         k += 1;
     }
 }
@@ -677,7 +615,7 @@ fn receive_often(times: u64, stream: &[u8]) -> u64 {
 
 fn run_receive(times: u64) -> u64 {
     let mut text = [0u8; 40];
-    let g = fill_traffic(&mut text, 625);
+    let g = fill(&mut text, Made::Traffic);
     let slots = slots_of(&text);
     let mut stream = [0u8; 256];
     broadcast(&mut stream, &text, g);
@@ -687,24 +625,53 @@ fn run_receive(times: u64) -> u64 {
     receive_often(times, &stream[..slots])
 }
 
-fn answer(name: &[u8], sum: u64) {
-    io::write_all(1, name);
-    io::print_decimal(1, sum);
-    io::write_all(1, b"\n");
+fn answer(stream: Stream, output: &mut [u8], name: &[u8], sum: u64) {
+    stream
+        .put_all(output, name)
+        .put_decimal(output, sum)
+        .put(output, 10)
+        .finish(output, b"bench");
 }
 
 fn main() {
+    if filters::has_words(b"bench") {
+        return;
+    }
     let mut input = [0u8; 64];
-    let got = io::read_full(0, &mut input);
-    let wanted = wanted_in(&input[..got]);
-    let call = wanted.call;
-    match call {
-        1 => answer(b"meaning ", run_meaning(wanted.times)),
-        2 => answer(b"encode ", run_encode(wanted.times, wanted.length)),
-        3 => answer(b"print ", run_print(wanted.times, wanted.length)),
-        4 => answer(b"step ", run_step(wanted.times)),
-        5 => answer(b"slot ", run_slot(wanted.times, wanted.length)),
-        6 => answer(b"receive ", run_receive(wanted.times)),
-        _ => answer(b"no call ", 0),
+    let mut output = [0u8; 64];
+    let mut line = [0u8; 64];
+    let read = Stream::new().record(&mut input, &output, &mut line);
+    let count = read.count;
+    let stream = read.stream;
+    if stream.failed(b"bench") {
+        return;
+    }
+    let asked = asked_in(&line[..count]);
+    match asked.call {
+        1 => answer(stream, &mut output, b"meaning ", run_meaning(asked.times)),
+        2 => answer(
+            stream,
+            &mut output,
+            b"encode ",
+            run_encode(asked.times, asked.length),
+        ),
+        3 => answer(
+            stream,
+            &mut output,
+            b"print ",
+            run_print(asked.times, asked.length),
+        ),
+        4 => answer(stream, &mut output, b"step ", run_step(asked.times)),
+        5 => answer(
+            stream,
+            &mut output,
+            b"slot ",
+            run_slot(asked.times, asked.length),
+        ),
+        6 => answer(stream, &mut output, b"receive ", run_receive(asked.times)),
+        _ => filters::tell(
+            b"bench",
+            b"no such call: the input is CALL N L, CALL 1 to 6",
+        ),
     }
 }

@@ -1,4 +1,5 @@
 // One public call a record, so that rooms, cases, lengths and receivers can be tried that no filter reaches (docs/FORMATS.md).
+use filters::Stream;
 use mode_b::Heard;
 use mode_b::Hearing;
 use mode_b::Phase;
@@ -9,32 +10,30 @@ use mode_b::Slot;
 use signals::Case;
 use text::Encoded;
 use text::Printed;
-ghost use mathlib.Core.Path.{_≡_};
-ghost use Prim.Native.Nat.{_+_, _<_, _≤_};
-ghost use lib.ListN.{length};
+ghost use Prim.Native.Nat.{_<_};
+ghost use Rattle.io.specs.Counts.{Counts};
 
-// How a record came out: it was answered, the input ended before it, or it is none.
-pub enum Ended {
-    Answered(u64),
+// Why there is no further record: the input is over, or what stands there is none.
+pub enum End {
     Over,
-    Bad,
+    NoKind,
+    CutShort,
+    Room,
+    Length,
 }
 
-fn case_of(byte: u8) -> Case {
-    if byte % 2 == 0 {
-        return Case::Letters;
-    }
-    Case::Figures
+// How a record came out: the bytes that it had where it was answered, else 0 and why.
+pub struct Came {
+    pub stream: Stream,
+    pub bytes: usize,
+    pub end: End,
 }
 
-fn write_case(case: Case) {
-    match case {
-        Case::Letters => {
-            io::write_all(1, b"letters");
-        }
-        Case::Figures => {
-            io::write_all(1, b"figures");
-        }
+fn none(stream: Stream, end: End) -> Came {
+    Came {
+        stream,
+        bytes: 0,
+        end,
     }
 }
 
@@ -50,188 +49,95 @@ fn two_bytes(low: u8, high: u8) -> usize
     wide(high) * 256 + wide(low)
 }
 
-fn digit(value: u8) -> u8
-    requires { ⌜ value < 16 ⌝ }
-{
-    if value < 10 {
-        return 48 + value;
-    }
-    55 + value
-}
-
-// Puts two capital hexadecimal digits for each byte into the line; answers how many digits.
-fn spell(bytes: &[u8], line: &mut [u8]) -> usize
-    requires { ⌜ length (now bytes) + length (now bytes) ≤ length (now line) ⌝ }
-    ensures { λ r. ⌜ r ≡ length (now (bytes .entry)) + length (now (bytes .entry)) ⌝ }
-{
-    let mut i = 0;
-    while i < bytes.len() {
-        let byte = bytes[i];
-        line[i + i] = digit(byte / 16 % 16);
-        line[i + i + 1] = digit(byte % 16);
-        i += 1;
-    }
-    i + i
-}
-
-// The whole of the lent room, or - where it has no length, and the line's end. No room here is over 8,192 bytes.
-fn write_room(room: &[u8]) {
-    io::write_all(1, b" ");
+// The whole of the lent room, or - where it has no length, and the line's end.
+fn put_room(stream: Stream, output: &mut [u8], room: &[u8]) -> Stream {
     if room.len() == 0 {
-        io::write_all(1, b"-");
+        return stream.put_all(output, b" -\n");
     }
-    if room.len() <= 8192 {
-        let mut line = [0u8; 16384];
-        let digits = spell(room, &mut line);
-        io::write_all(1, &line[..digits]);
-    }
-    io::write_all(1, b"\n");
+    stream.put(output, 32).put_hex(output, room).put(output, 10)
 }
 
-fn write_ok(written: usize, ends: Case) {
-    io::write_all(1, b"ok ");
-    io::print_decimal(1, written as u64);
-    io::write_all(1, b" ");
-    write_case(ends);
+fn put_ok(stream: Stream, output: &mut [u8], written: usize, ends: Case) -> Stream {
+    let mut line = [0u8; 16];
+    let at = fields::put_case(&mut line, 0, ends);
+    stream
+        .put_all(output, b"ok ")
+        .put_decimal(output, written as u64)
+        .put_line(output, &line, at)
 }
 
-fn encode(text: &[u8], case: Case, room: &mut [u8]) {
-    let answer = encoding::encode(text, case, room);
+fn put_encoded(stream: Stream, output: &mut [u8], answer: Encoded) -> Stream {
     match answer {
-        Encoded::Written { count, ends } => write_ok(count, ends),
-        Encoded::TooLong => filters::write_refusal(1, 5, 4096),
-        Encoded::NoSignal(index) => filters::write_refusal(1, 1, index as u64),
-        Encoded::NoRoom(needed) => filters::write_refusal(1, 2, needed as u64),
+        Encoded::Written { count, ends } => put_ok(stream, output, count, ends),
+        Encoded::TooLong => stream.put_refusal(output, 5, 4096),
+        Encoded::NoSignal(index) => stream.put_refusal(output, 1, index as u64),
+        Encoded::NoRoom(needed) => stream.put_refusal(output, 2, needed as u64),
     }
-    write_room(room);
 }
 
-fn print(words: &[u8], case: Case, room: &mut [u8]) {
-    let answer = printing::print(words, case, room);
+fn put_printed(stream: Stream, output: &mut [u8], answer: Printed) -> Stream {
     match answer {
-        Printed::Written { count, ends } => write_ok(count, ends),
-        Printed::TooLong => filters::write_refusal(1, 7, 8192),
-        Printed::BadWord(index) => filters::write_refusal(1, 3, index as u64),
-        Printed::NoRoom(needed) => filters::write_refusal(1, 2, needed as u64),
+        Printed::Written { count, ends } => put_ok(stream, output, count, ends),
+        Printed::TooLong => stream.put_refusal(output, 7, 8192),
+        Printed::BadWord(index) => stream.put_refusal(output, 3, index as u64),
+        Printed::NoRoom(needed) => stream.put_refusal(output, 2, needed as u64),
     }
-    write_room(room);
 }
 
-fn fill(room: &mut [u8]) {
+// Fills the first `size` bytes of the room; answers how many there are.
+fn fill(room: &mut [u8], size: usize) -> usize
+    ensures { λ r. ⌜ Counts r (now (room .exit)) ⌝ }
+{
     let mut i = 0;
     while i < room.len() {
+        if i == size {
+            return i;
+        }
         room[i] = 170;
         i += 1;
     }
+    i
 }
 
-fn past(place: u64, bytes: u64) -> u64 {
-    if u64::MAX - place < bytes {
-        return u64::MAX;
-    }
-    place + bytes
-}
-
-// Reads the list, fills the room and makes the call.
-fn answer(kind: u8, case: Case, list: &mut [u8], room: &mut [u8]) -> Ended {
-    let read = io::read_full(0, list);
-    if read != list.len() {
-        return Ended::Bad;
-    }
-    fill(room);
-    let bytes = past(6, list.len() as u64);
+// A call of kind E or P.
+fn call(
+    stream: Stream,
+    output: &mut [u8],
+    kind: u8,
+    case: Case,
+    list: &[u8],
+    room: &mut [u8],
+) -> Stream {
     if kind == b'E' {
-        encode(list, case, room);
-        return Ended::Answered(bytes);
+        let answer = encoding::encode(list, case, room);
+        return put_room(put_encoded(stream, output, answer), output, room);
     }
-    print(list, case, room);
-    Ended::Answered(bytes)
+    let answer = printing::print(list, case, room);
+    put_room(put_printed(stream, output, answer), output, room)
 }
 
-// The rest of a record of kind E or P: case, room, length, and the list. `list` and `room` are as long as a record may ask.
-fn with_room(kind: u8, list: &mut [u8], room: &mut [u8]) -> Ended {
-    let mut head = [0u8; 5];
-    let got = io::read_full(0, &mut head);
-    if got != 5 {
-        return Ended::Bad;
+fn put_slot(stream: Stream, output: &mut [u8], slot: Slot) -> Stream {
+    match slot {
+        Slot::Word(word) => stream
+            .put_all(output, b"ok ")
+            .put_decimal(output, word as u64),
+        Slot::TooLong => stream.put_refusal(output, 7, 8192),
+        Slot::BadWord(index) => stream.put_refusal(output, 3, index as u64),
+        Slot::PastLast(slots) => stream.put_refusal(output, 6, slots as u64),
     }
-    let case = case_of(head[0]);
-    let size = two_bytes(head[1], head[2]);
-    let length = two_bytes(head[3], head[4]);
-    if room.len() < size {
-        return Ended::Bad;
-    }
-    if list.len() < length {
-        return Ended::Bad;
-    }
-    answer(kind, case, &mut list[..length], &mut room[..size])
 }
 
-fn four_bytes(head: &[u8; 6]) -> usize {
+fn four_bytes(head: &[u8; 10]) -> usize {
     two_bytes(head[2], head[3]) * 65536 + two_bytes(head[0], head[1])
 }
 
-// Reads the text and asks for the slot.
-fn answer_slot(text: &mut [u8], number: usize) -> Ended {
-    let read = io::read_full(0, text);
-    if read != text.len() {
-        return Ended::Bad;
-    }
-    let bytes = past(7, text.len() as u64);
-    let slot = sending::slot(text, number);
-    match slot {
-        Slot::Word(word) => {
-            io::write_all(1, b"ok ");
-            io::print_decimal(1, word as u64);
-        }
-        Slot::TooLong => filters::write_refusal(1, 7, 8192),
-        Slot::BadWord(index) => filters::write_refusal(1, 3, index as u64),
-        Slot::PastLast(slots) => filters::write_refusal(1, 6, slots as u64),
-    }
-    io::write_all(1, b"\n");
-    Ended::Answered(bytes)
-}
-
-// The rest of a record of kind S: slot number, length, and the text.
-fn with_slot(list: &mut [u8]) -> Ended {
-    let mut head = [0u8; 6];
-    let got = io::read_full(0, &mut head);
-    if got != 6 {
-        return Ended::Bad;
-    }
-    let number = four_bytes(&head);
-    let length = two_bytes(head[4], head[5]);
-    if list.len() < length {
-        return Ended::Bad;
-    }
-    answer_slot(&mut list[..length], number)
-}
-
-// A space and the number.
-fn write_number(number: u8) {
-    io::write_all(1, b" ");
-    io::print_decimal(1, number as u64);
-}
-
-fn write_flag(flag: bool) {
-    if flag {
-        write_number(1);
-        return;
-    }
-    write_number(0);
-}
-
-// The rest of a record of kind M: the byte.
-fn with_byte() -> Ended {
-    let mut byte = [0u8; 1];
-    let got = io::read_full(0, &mut byte);
-    if got != 1 {
-        return Ended::Bad;
-    }
-    io::print_decimal(1, signals::meaning(byte[0]) as u64);
-    write_flag(signals::intact(byte[0]));
-    io::write_all(1, b"\n");
-    Ended::Answered(2)
+// A call of kind M.
+fn put_meaning(stream: Stream, output: &mut [u8], byte: u8) -> Stream {
+    let mut line = [0u8; 16];
+    let mut at = numbers::put_number(&mut line, 0, signals::meaning(byte));
+    at = fields::put_flag(&mut line, at, signals::intact(byte));
+    at = numbers::put(&mut line, at, 10);
+    stream.put_line(output, &line, at)
 }
 
 fn phasing_of(byte: u8) -> Phasing {
@@ -241,135 +147,255 @@ fn phasing_of(byte: u8) -> Phasing {
     Phasing::Two
 }
 
-// The receiver of a record of kind R. The kind is read already: byte 1 stands at 0.
-fn receiver_of(record: &[u8; 10]) -> Receiver {
-    if record[0] % 2 == 0 {
+// The receiver of a record of kind R. The kind does not stand in the head: byte 1 of the record stands at 0.
+fn receiver_of(head: &[u8; 10]) -> Receiver {
+    if head[0] % 2 == 0 {
         return Receiver {
-            hearing: Hearing::Searching(record[1], phasing_of(record[2])),
+            hearing: Hearing::Searching(head[1], phasing_of(head[2])),
         };
     }
     Receiver {
         hearing: Hearing::InPhase(Phase {
-            first: record[3],
-            second: record[4],
-            third: record[5],
-            dx: record[6] % 2 == 0,
-            printing: record[7] % 2 == 1,
+            first: head[3],
+            second: head[4],
+            third: head[5],
+            dx: head[6] % 2 == 0,
+            printing: head[7] % 2 == 1,
         }),
     }
 }
 
 // The run, and its last signal: a run of 0 has none.
-fn write_searching(run: u8, last: Phasing) {
-    io::write_all(1, b"searching");
-    write_number(run);
+fn put_searching(line: &mut [u8], run: u8, last: Phasing) -> usize {
+    let mut at = numbers::put_all(line, 0, b"searching");
+    at = fields::put_number(line, at, run);
     if run == 0 {
-        io::write_all(1, b" none");
-        return;
+        return numbers::put_all(line, at, b" none");
     }
     match last {
-        Phasing::One => {
-            io::write_all(1, b" alpha");
-        }
-        Phasing::Two => {
-            io::write_all(1, b" RQ");
-        }
+        Phasing::One => numbers::put_all(line, at, b" alpha"),
+        Phasing::Two => numbers::put_all(line, at, b" RQ"),
     }
 }
 
-fn write_numbers(first: u8, second: u8, third: u8) {
-    write_number(first);
-    write_number(second);
-    write_number(third);
-}
-
-// The DX words, the next slot, whether printing has begun, and a wait of 0. Where a DX slot comes next, the oldest word is settled.
-fn write_phase(p: Phase) {
-    io::write_all(1, b"phase");
+// The oldest DX word: where a DX slot comes next, it is settled.
+fn oldest(p: Phase) -> u8 {
     if p.dx {
-        write_numbers(0, p.second, p.third);
-        io::write_all(1, b" dx");
-    } else {
-        write_numbers(p.first, p.second, p.third);
-        io::write_all(1, b" rx");
+        return 0;
     }
-    write_flag(p.printing);
-    write_number(0);
+    p.first
 }
 
-fn write_heard(heard: Heard) {
-    let receiver = heard.receiver;
+fn put_next(line: &mut [u8], at: usize, dx: bool) -> usize {
+    if dx {
+        return numbers::put_all(line, at, b" dx");
+    }
+    numbers::put_all(line, at, b" rx")
+}
+
+// The DX words, the next slot, whether printing has begun, and a wait of 0.
+fn put_phase(line: &mut [u8], p: Phase) -> usize {
+    let mut at = numbers::put_all(line, 0, b"phase");
+    at = fields::put_number(line, at, oldest(p));
+    at = fields::put_number(line, at, p.second);
+    at = fields::put_number(line, at, p.third);
+    at = put_next(line, at, p.dx);
+    at = fields::put_flag(line, at, p.printing);
+    numbers::put_all(line, at, b" 0")
+}
+
+fn put_hearing(line: &mut [u8], receiver: Receiver) -> usize {
     let hearing = receiver.hearing;
     match hearing {
-        Hearing::Searching(run, last) => write_searching(run, last),
-        Hearing::InPhase(p) => write_phase(p),
+        Hearing::Searching(run, last) => put_searching(line, run, last),
+        Hearing::InPhase(p) => put_phase(line, p),
     }
-    io::write_all(1, b" |");
-    write_number(heard.printed);
 }
 
-// The rest of a record of kind R: the receiver, and the word that it hears.
-fn with_receiver() -> Ended {
-    let mut record = [0u8; 10];
-    let got = io::read_full(0, &mut record);
-    if got != 10 {
-        return Ended::Bad;
-    }
-    let received = receiving::receive(receiver_of(&record), record[9]);
+fn put_heard(stream: Stream, output: &mut [u8], heard: Heard) -> Stream {
+    let receiver = heard.receiver;
+    let mut line = [0u8; 64];
+    let mut at = put_hearing(&mut line, receiver);
+    at = numbers::put_all(&mut line, at, b" |");
+    at = fields::put_number(&mut line, at, heard.printed);
+    at = numbers::put(&mut line, at, 10);
+    stream.put_line(output, &line, at)
+}
+
+// A call of kind R.
+fn put_received(stream: Stream, output: &mut [u8], head: &[u8; 10]) -> Stream {
+    let received = receiving::receive(receiver_of(head), head[9]);
     match received {
-        Received::Done(heard) => write_heard(heard),
-        Received::BadReceiver(_) => filters::write_refusal(1, 4, 0),
+        Received::Done(heard) => put_heard(stream, output, heard),
+        Received::BadReceiver(_) => stream.put_all(output, b"refused 4 0\n"),
     }
-    io::write_all(1, b"\n");
-    Ended::Answered(11)
 }
 
-fn record(list: &mut [u8], room: &mut [u8]) -> Ended {
-    let mut kind = [0u8; 1];
-    let got = io::read_full(0, &mut kind);
-    if got == 0 {
-        return Ended::Over;
+// The bytes between a record's kind and its list; 0 where there is no such kind.
+fn head_length(kind: u8) -> usize
+    ensures { λ r. ⌜ r < 11 ⌝ }
+{
+    match kind {
+        b'E' | b'P' => 5,
+        b'S' => 6,
+        b'M' => 1,
+        b'R' => 10,
+        _ => 0,
     }
-    if kind[0] == b'E' {
-        return with_room(b'E', list, room);
-    }
-    if kind[0] == b'P' {
-        return with_room(b'P', list, room);
-    }
-    if kind[0] == b'S' {
-        return with_slot(list);
-    }
-    if kind[0] == b'M' {
-        return with_byte();
-    }
-    if kind[0] == b'R' {
-        return with_receiver();
-    }
-    Ended::Bad
 }
 
-fn records(list: &mut [u8], room: &mut [u8]) {
-    let mut place: u64 = 0;
-    let mut turns = u64::MAX;
-    while turns > 0 {
-        match record(list, room) {
-            Ended::Answered(bytes) => {
-                place = past(place, bytes);
-            }
-            Ended::Over => {
-                return;
-            }
-            Ended::Bad => {
-                filters::tell_place(b"bad record at ", place);
-                return;
-            }
+// The room that a record asks for.
+fn size_in(kind: u8, head: &[u8; 10]) -> usize {
+    match kind {
+        b'E' | b'P' => two_bytes(head[1], head[2]),
+        _ => 0,
+    }
+}
+
+// The length of a record's list.
+fn length_in(kind: u8, head: &[u8; 10]) -> usize
+    ensures { λ r. ⌜ r < 65536 ⌝ }
+{
+    match kind {
+        b'E' | b'P' => two_bytes(head[3], head[4]),
+        b'S' => two_bytes(head[4], head[5]),
+        _ => 0,
+    }
+}
+
+fn answer(
+    stream: Stream,
+    output: &mut [u8],
+    kind: u8,
+    head: &[u8; 10],
+    list: &[u8],
+    room: &mut [u8],
+) -> Stream {
+    match kind {
+        b'E' | b'P' => {
+            let filled = fill(room, size_in(kind, head));
+            call(
+                stream,
+                output,
+                kind,
+                fields::case_of(head[0]),
+                list,
+                &mut room[..filled],
+            )
         }
-        turns -= 1;
+        b'S' => put_slot(stream, output, sending::slot(list, four_bytes(head))).put(output, 10),
+        b'M' => put_meaning(stream, output, head[0]),
+        _ => put_received(stream, output, head),
     }
+}
+
+// Reads the list and answers. `list` and `room` are as long as a record may ask.
+fn listed(
+    stream: Stream,
+    input: &mut [u8],
+    output: &mut [u8],
+    kind: u8,
+    head: &[u8; 10],
+    list: &mut [u8],
+    room: &mut [u8],
+) -> Came {
+    let length = length_in(kind, head);
+    if room.len() < size_in(kind, head) {
+        return none(stream, End::Room);
+    }
+    if list.len() < length {
+        return none(stream, End::Length);
+    }
+    let read = stream.read_first(input, output, list, length);
+    let after = read.stream;
+    let count = read.count;
+    if count != length {
+        return none(after, End::CutShort);
+    }
+    Came {
+        stream: answer(after, output, kind, head, &list[..count], room),
+        bytes: 1 + head_length(kind) + length,
+        end: End::Over,
+    }
+}
+
+fn record(
+    stream: Stream,
+    input: &mut [u8],
+    output: &mut [u8],
+    list: &mut [u8],
+    room: &mut [u8],
+) -> Came {
+    let first = stream.byte(input, output);
+    let begun = first.stream;
+    let kind = first.byte;
+    let needed = head_length(kind);
+    if !first.more {
+        return none(begun, End::Over);
+    }
+    if needed == 0 {
+        return none(begun, End::NoKind);
+    }
+    let mut head = [0u8; 10];
+    let read = begun.read_first(input, output, &mut head, needed);
+    let after = read.stream;
+    if read.count != needed {
+        return none(after, End::CutShort);
+    }
+    listed(after, input, output, kind, &head, list, room)
+}
+
+// Writes what waits, and tells why there is no record at the place. Where reading or writing has failed, that is told instead.
+fn tell(stream: Stream, output: &[u8], place: u64, why: &[u8]) {
+    let flushed = stream.flush(output);
+    if flushed.unread {
+        flushed.finish(output, b"calls");
+        return;
+    }
+    if flushed.unwritten {
+        flushed.finish(output, b"calls");
+        return;
+    }
+    filters::tell_place(b"calls", b"bad record at ", place, why);
+}
+
+fn finish(stream: Stream, output: &[u8], place: u64, end: End) {
+    match end {
+        End::Over => stream.finish(output, b"calls"),
+        End::NoKind => tell(stream, output, place, b"no such kind"),
+        End::CutShort => tell(stream, output, place, b"cut short"),
+        End::Room => tell(stream, output, place, b"a room over 8192"),
+        End::Length => tell(stream, output, place, b"a length over 8193"),
+    }
+}
+
+fn past(place: u64, bytes: usize) -> u64 {
+    if u64::MAX - place < bytes as u64 {
+        return u64::MAX;
+    }
+    place + bytes as u64
 }
 
 fn main() {
+    if filters::has_words(b"calls") {
+        return;
+    }
+    let mut input = [0u8; 4096];
+    let mut output = [0u8; 4096];
     let mut list = [0u8; 8193];
     let mut room = [0u8; 8192];
-    records(&mut list, &mut room);
+    let mut stream = Stream::new();
+    let mut place: u64 = 0;
+    let mut turns = u64::MAX;
+    while turns > 0 {
+        let came = record(stream, &mut input, &mut output, &mut list, &mut room);
+        let end = came.end;
+        stream = came.stream;
+        if came.bytes == 0 {
+            finish(stream, &output, place, end);
+            return;
+        }
+        place = past(place, came.bytes);
+        turns -= 1;
+    }
 }

@@ -1,7 +1,9 @@
 // Runs 01's worked examples that are not proved, and the limits of printing and of mode B, and writes what each gives.
+use filters::Stream;
 use mode_a::Number;
 use mode_a::Offer;
 use mode_a::Place;
+use mode_a::Reply;
 use mode_a::Role;
 use mode_a::Station;
 use mode_a::Stepped;
@@ -15,106 +17,91 @@ use signals::Case;
 use text::Encoded;
 use text::Printed;
 
-fn write_encoded(answer: Encoded) {
+// A line: what it is about, and what it gave.
+fn put_encoded(stream: Stream, output: &mut [u8], about: &[u8], answer: Encoded) -> Stream {
+    let begun = stream.put_all(output, about);
     match answer {
-        Encoded::Written { count, ends: _ } => {
-            io::write_all(1, b"written ");
-            io::print_decimal(1, count as u64);
-        }
-        Encoded::TooLong => filters::write_refusal(1, 5, 4096),
-        Encoded::NoSignal(index) => filters::write_refusal(1, 1, index as u64),
-        Encoded::NoRoom(needed) => filters::write_refusal(1, 2, needed as u64),
+        Encoded::Written { count, ends: _ } => begun
+            .put_all(output, b"written ")
+            .put_decimal(output, count as u64)
+            .put(output, 10),
+        Encoded::TooLong => begun.put_refusal(output, 5, 4096).put(output, 10),
+        Encoded::NoSignal(index) => begun.put_refusal(output, 1, index as u64).put(output, 10),
+        Encoded::NoRoom(needed) => begun.put_refusal(output, 2, needed as u64).put(output, 10),
     }
-    io::write_all(1, b"\n");
 }
 
-fn write_printed(answer: Printed) {
+fn put_printed(stream: Stream, output: &mut [u8], about: &[u8], answer: Printed) -> Stream {
+    let begun = stream.put_all(output, about);
     match answer {
-        Printed::Written { count, ends: _ } => {
-            io::write_all(1, b"written ");
-            io::print_decimal(1, count as u64);
-        }
-        Printed::TooLong => filters::write_refusal(1, 7, 8192),
-        Printed::BadWord(index) => filters::write_refusal(1, 3, index as u64),
-        Printed::NoRoom(needed) => filters::write_refusal(1, 2, needed as u64),
+        Printed::Written { count, ends: _ } => begun
+            .put_all(output, b"written ")
+            .put_decimal(output, count as u64)
+            .put(output, 10),
+        Printed::TooLong => begun.put_refusal(output, 7, 8192).put(output, 10),
+        Printed::BadWord(index) => begun.put_refusal(output, 3, index as u64).put(output, 10),
+        Printed::NoRoom(needed) => begun.put_refusal(output, 2, needed as u64).put(output, 10),
     }
-    io::write_all(1, b"\n");
 }
 
-fn text() {
+fn text(stream: Stream, output: &mut [u8]) -> Stream {
     let mut room = [0u8; 2];
-    io::write_all(1, b"encode \"a\": ");
-    write_encoded(encoding::encode(b"a", Case::Letters, &mut room));
-    io::write_all(1, b"encode \"A1\", room 2: ");
-    write_encoded(encoding::encode(b"A1", Case::Letters, &mut room));
+    let small = encoding::encode(b"a", Case::Letters, &mut room);
+    let short = encoding::encode(b"A1", Case::Letters, &mut room);
+    let next = put_encoded(stream, output, b"encode \"a\": ", small);
+    put_encoded(next, output, b"encode \"A1\", room 2: ", short)
 }
 
-fn encode_limits() {
+fn encode_limits(stream: Stream, output: &mut [u8]) -> Stream {
     let mut room = [0u8; 8192];
-    io::write_all(1, b"encode 4096 characters: ");
-    write_encoded(encoding::encode(&[b'A'; 4096], Case::Letters, &mut room));
-    io::write_all(1, b"encode 4097 characters: ");
-    write_encoded(encoding::encode(&[b'A'; 4097], Case::Letters, &mut room));
+    let most = encoding::encode(&[b'A'; 4096], Case::Letters, &mut room);
+    let over = encoding::encode(&[b'A'; 4097], Case::Letters, &mut room);
+    let next = put_encoded(stream, output, b"encode 4096 characters: ", most);
+    put_encoded(next, output, b"encode 4097 characters: ", over)
 }
 
-fn print_limits() {
+fn print_limits(stream: Stream, output: &mut [u8]) -> Stream {
     let mut room = [0u8; 8192];
-    io::write_all(1, b"print 8192 signals: ");
-    write_printed(printing::print(&[71u8; 8192], Case::Letters, &mut room));
-    io::write_all(1, b"print 8193 signals: ");
-    write_printed(printing::print(&[71u8; 8193], Case::Letters, &mut room));
+    let most = printing::print(&[71u8; 8192], Case::Letters, &mut room);
+    let over = printing::print(&[71u8; 8193], Case::Letters, &mut room);
+    let next = put_printed(stream, output, b"print 8192 signals: ", most);
+    put_printed(next, output, b"print 8193 signals: ", over)
 }
 
-fn write_place(place: Place) {
+fn put_place(stream: Stream, output: &mut [u8], place: Place) -> Stream {
     match place {
-        Place::Sending(_) => {
-            io::write_all(1, b"Sending\n");
-        }
-        Place::Turning(_) => {
-            io::write_all(1, b"Turning\n");
-        }
-        Place::Opening => {
-            io::write_all(1, b"Opening\n");
-        }
-        Place::Ending(_) => {
-            io::write_all(1, b"Ending\n");
-        }
-        Place::Receiving(_) => {
-            io::write_all(1, b"Receiving\n");
-        }
-        Place::Asking => {
-            io::write_all(1, b"Asking\n");
-        }
-        Place::StandBy => {
-            io::write_all(1, b"Stand-by\n");
-        }
-        Place::Lost => {
-            io::write_all(1, b"Lost\n");
-        }
+        Place::Sending(_) => stream.put_all(output, b"Sending\n"),
+        Place::Turning(_) => stream.put_all(output, b"Turning\n"),
+        Place::Opening => stream.put_all(output, b"Opening\n"),
+        Place::Ending(_) => stream.put_all(output, b"Ending\n"),
+        Place::Receiving(_) => stream.put_all(output, b"Receiving\n"),
+        Place::Asking => stream.put_all(output, b"Asking\n"),
+        Place::StandBy => stream.put_all(output, b"Stand-by\n"),
+        Place::Lost => stream.put_all(output, b"Lost\n"),
     }
 }
 
-// How many signals a step printed, and the place it leads to.
-fn write_stepped(stepped: Stepped) {
+// Whether a step printed, and the place it leads to.
+fn put_reply(stream: Stream, output: &mut [u8], reply: Reply) -> Stream {
+    let station = reply.station;
+    let place = station.place;
+    let printed = reply.printed;
+    if printed.0 == 0 {
+        return put_place(stream.put_all(output, b"nothing printed, "), output, place);
+    }
+    put_place(
+        stream.put_all(output, b"accepted and printed, "),
+        output,
+        place,
+    )
+}
+
+fn put_stepped(stream: Stream, output: &mut [u8], about: &[u8], stepped: Stepped) -> Stream {
+    let begun = stream.put_all(output, about);
     match stepped {
-        Stepped::Done(reply) => {
-            let station = reply.station;
-            let place = station.place;
-            let printed = reply.printed;
-            if printed.0 == 0 {
-                io::write_all(1, b"nothing printed, ");
-            } else {
-                io::write_all(1, b"accepted and printed, ");
-            }
-            write_place(place);
-        }
-        Stepped::BadStation(_) => {
-            io::write_all(1, b"refused 4 0\n");
-        }
-        Stepped::BadWord(index, _) => {
-            filters::write_refusal(1, 3, index as u64);
-            io::write_all(1, b"\n");
-        }
+        Stepped::Done(reply) => put_reply(begun, output, reply),
+        Stepped::BadStation(_) => begun.put_refusal(output, 4, 0).put(output, 10),
+        Stepped::BadWord(index, _) => begun.put_refusal(output, 3, index as u64).put(output, 10),
     }
 }
 
@@ -129,75 +116,66 @@ fn repeated_31() -> Station {
     }
 }
 
-fn count_31() {
-    io::write_all(1, b"count 31 and a good block: ");
-    write_stepped(station::step(repeated_31(), Words(116, 86, 51), Offer::Nothing));
-    io::write_all(1, b"count 31 and a bad one: ");
-    write_stepped(station::step(repeated_31(), Words(116, 0, 51), Offer::Nothing));
+fn count_31(stream: Stream, output: &mut [u8]) -> Stream {
+    let good = station::step(repeated_31(), Words(116, 86, 51), Offer::Nothing);
+    let bad = station::step(repeated_31(), Words(116, 0, 51), Offer::Nothing);
+    let next = put_stepped(stream, output, b"count 31 and a good block: ", good);
+    put_stepped(next, output, b"count 31 and a bad one: ", bad)
 }
 
 // How long a sending is: no sending reaches slot 65,535, so it is refused with the number of slots.
-fn write_length(text: &[u8]) {
+fn put_length(stream: Stream, output: &mut [u8], about: &[u8], text: &[u8]) -> Stream {
+    let begun = stream.put_all(output, about);
     let slot = sending::slot(text, 65535);
     match slot {
-        Slot::Word(word) => {
-            io::print_decimal(1, word as u64);
-        }
-        Slot::TooLong => filters::write_refusal(1, 7, 8192),
-        Slot::BadWord(index) => filters::write_refusal(1, 3, index as u64),
-        Slot::PastLast(slots) => {
-            io::print_decimal(1, (slots / 2) as u64);
-            io::write_all(1, b" positions, ");
-            io::print_decimal(1, slots as u64);
-            io::write_all(1, b" slots");
-        }
+        Slot::Word(word) => begun.put_decimal(output, word as u64).put(output, 10),
+        Slot::TooLong => begun.put_refusal(output, 7, 8192).put(output, 10),
+        Slot::BadWord(index) => begun.put_refusal(output, 3, index as u64).put(output, 10),
+        Slot::PastLast(slots) => begun
+            .put_decimal(output, (slots / 2) as u64)
+            .put_all(output, b" positions, ")
+            .put_decimal(output, slots as u64)
+            .put_all(output, b" slots\n"),
     }
-    io::write_all(1, b"\n");
 }
 
-fn lengths() {
-    io::write_all(1, b"send no signals: ");
-    write_length(b"");
-    io::write_all(1, b"send 94 signals: ");
-    write_length(&[71u8; 94]);
-    io::write_all(1, b"send 95 signals: ");
-    write_length(&[71u8; 95]);
-    io::write_all(1, b"send 190 signals: ");
-    write_length(&[71u8; 190]);
-    io::write_all(1, b"send 191 signals: ");
-    write_length(&[71u8; 191]);
+fn lengths(stream: Stream, output: &mut [u8]) -> Stream {
+    let mut to = put_length(stream, output, b"send no signals: ", b"");
+    to = put_length(to, output, b"send 94 signals: ", &[71u8; 94]);
+    to = put_length(to, output, b"send 95 signals: ", &[71u8; 95]);
+    to = put_length(to, output, b"send 190 signals: ", &[71u8; 190]);
+    put_length(to, output, b"send 191 signals: ", &[71u8; 191])
 }
 
-fn send_limits() {
-    io::write_all(1, b"send 8192 signals: ");
-    write_length(&[71u8; 8192]);
-    io::write_all(1, b"send 8193 signals: ");
-    write_length(&[71u8; 8193]);
+fn send_limits(stream: Stream, output: &mut [u8]) -> Stream {
+    let next = put_length(stream, output, b"send 8192 signals: ", &[71u8; 8192]);
+    put_length(next, output, b"send 8193 signals: ", &[71u8; 8193])
 }
 
 // A receiver that no run of steps reaches.
-fn search_run_4() {
+fn search_run_4(stream: Stream, output: &mut [u8]) -> Stream {
     let receiver = Receiver {
         hearing: Hearing::Searching(4, Phasing::One),
     };
-    io::write_all(1, b"receiver with a search run of 4: ");
+    let begun = stream.put_all(output, b"receiver with a search run of 4: ");
     let received = receiving::receive(receiver, signals::RQ);
     match received {
-        Received::Done(_) => {
-            io::write_all(1, b"heard\n");
-        }
-        Received::BadReceiver(_) => {
-            io::write_all(1, b"refused 4 0\n");
-        }
+        Received::Done(_) => begun.put_all(output, b"heard\n"),
+        Received::BadReceiver(_) => begun.put_refusal(output, 4, 0).put(output, 10),
     }
 }
 
 fn main() {
-    text();
-    encode_limits();
-    print_limits();
-    count_31();
-    lengths();
-    send_limits();
-    search_run_4();
+    if filters::has_words(b"examples") {
+        return;
+    }
+    let mut output = [0u8; 4096];
+    let mut stream = text(Stream::new(), &mut output);
+    stream = encode_limits(stream, &mut output);
+    stream = print_limits(stream, &mut output);
+    stream = count_31(stream, &mut output);
+    stream = lengths(stream, &mut output);
+    stream = send_limits(stream, &mut output);
+    stream = search_run_4(stream, &mut output);
+    stream.finish(&output, b"examples");
 }

@@ -1,338 +1,585 @@
-// What the programs share (docs/FORMATS.md): numbers read from standard input and written to standard output, and refusals
-// told. No contract can speak of what a program reads or writes, so these functions are proved to be safe and to end, and
-// the programs are run and compared.
-ghost use Prim.Native.Nat.{_≤_};
-ghost use lib.ListN.{length};
+// What the programs share (docs/FORMATS.md): standard input and output by the block, numbers read and written, and what is told
+// on standard error. No contract can speak of what a program reads or writes, so these functions are proved to be safe and to
+// end, and the programs are run and compared; what is put into a room and how numbers are read is promised by `numbers`.
+ghost use Rattle.io.specs.Counts.{Counts};
+use numbers::Event;
+use numbers::Reader;
 
-// A reader of decimal numbers, 0 to 255, between white space: the place of the next byte, and of the number that has begun
-// its first byte and its value so far.
-pub struct Reader {
-    pub place: u64,
-    pub start: u64,
-    pub value: u8,
-    pub begun: bool,
-}
-
-// What a byte brings: nothing yet, a number that it ends, or the place where something stands that is no such number.
-pub enum Event {
-    Nothing,
-    Word(u8),
-    NoNumber(u64),
-}
-
-pub struct Took {
+// A program's two streams, which go through two rooms that it lends: in the input room the next byte and the place past the
+// last; in the output room the place past what waits to be written. Then the reader of the numbers, the words that stand on the
+// line that is written, and how it stands: the input is over, a read has failed, a write has failed.
+pub struct Stream {
+    pub next: usize,
+    pub end: usize,
+    pub waiting: usize,
     pub reader: Reader,
-    pub event: Event,
+    pub column: usize,
+    pub over: bool,
+    pub unread: bool,
+    pub unwritten: bool,
 }
 
-fn is_white(byte: u8) -> bool {
-    match byte {
-        9 | 10 | 13 | 32 => true,
-        _ => false,
+// A byte of the input, if there is one more.
+pub struct Byte {
+    pub stream: Stream,
+    pub byte: u8,
+    pub more: bool,
+}
+
+// A number of the input, its end, or the place where something stands that is no number.
+pub enum Number {
+    Word(u8),
+    End,
+    Over(u64),
+    NoDigit(u64),
+}
+
+// What the rest of a block brings.
+struct Scanned {
+    stream: Stream,
+    event: Event,
+}
+
+pub struct Numbered {
+    pub stream: Stream,
+    pub number: Number,
+}
+
+// How many bytes or numbers stand in a room, and what came behind them.
+pub struct Filled {
+    pub stream: Stream,
+    pub count: usize,
+    pub number: Number,
+}
+
+fn brings(event: Event) -> bool {
+    match event {
+        Event::Nothing => false,
+        Event::Word(_) => true,
+        Event::Over(_) => true,
+        Event::NoDigit(_) => true,
     }
 }
 
-// One further, up to a place that no input reaches.
-fn further(place: u64) -> u64 {
-    if place == u64::MAX {
-        return place;
+// The number that an event brings; where it brings nothing, there is none.
+fn number_of(event: Event) -> Number {
+    match event {
+        Event::Nothing => Number::End,
+        Event::Word(word) => Number::Word(word),
+        Event::Over(place) => Number::Over(place),
+        Event::NoDigit(place) => Number::NoDigit(place),
     }
-    place + 1
 }
 
-impl Reader {
+impl Stream {
     pub fn new() -> Self {
-        Reader {
-            place: 0,
-            start: 0,
-            value: 0,
-            begun: false,
+        Stream {
+            next: 0,
+            end: 0,
+            waiting: 0,
+            reader: Reader::new(),
+            column: 0,
+            over: false,
+            unread: false,
+            unwritten: false,
         }
     }
 
-    fn between(place: u64) -> Self {
-        Reader {
-            place: place,
-            start: 0,
-            value: 0,
-            begun: false,
+    fn with_input(self, next: usize, end: usize, over: bool, unread: bool) -> Self {
+        let reader = self.reader;
+        Stream {
+            next: next,
+            end: end,
+            waiting: self.waiting,
+            reader: reader,
+            column: self.column,
+            over: over,
+            unread: unread,
+            unwritten: self.unwritten,
         }
     }
 
-    // The first byte of the number to which the next byte belongs.
-    fn first(self) -> u64 {
-        if self.begun {
-            return self.start;
+    fn with_reader(self, next: usize, reader: Reader) -> Self {
+        Stream {
+            next: next,
+            end: self.end,
+            waiting: self.waiting,
+            reader: reader,
+            column: self.column,
+            over: self.over,
+            unread: self.unread,
+            unwritten: self.unwritten,
         }
-        self.place
     }
 
-    fn with_digit(self, digit: u8) -> Took {
-        let start = self.first();
-        let value = self.value;
-        if 25 < value {
-            return Took {
-                reader: self,
-                event: Event::NoNumber(start),
-            };
+    fn with_output(self, waiting: usize, column: usize, unwritten: bool) -> Self {
+        let reader = self.reader;
+        Stream {
+            next: self.next,
+            end: self.end,
+            waiting: waiting,
+            reader: reader,
+            column: column,
+            over: self.over,
+            unread: self.unread,
+            unwritten: unwritten,
         }
-        let grown = (value as u16) * 10 + ((digit % 10) as u16);
-        if 255 < grown {
-            return Took {
-                reader: self,
-                event: Event::NoNumber(start),
-            };
+    }
+
+    // Writes what waits.
+    pub fn flush(self, output: &[u8]) -> Self {
+        let column = self.column;
+        if self.unwritten {
+            return self.with_output(0, column, true);
         }
-        Took {
-            reader: Reader {
-                place: further(self.place),
-                start: start,
-                value: (grown % 256) as u8,
-                begun: true,
-            },
+        let written = write_first(1, output, self.waiting);
+        self.with_output(0, column, !written)
+    }
+
+    // Reads the next block, after what waits is written: an empty one where the input is over, a read fails or a write has
+    // failed.
+    fn refill(self, input: &mut [u8], output: &[u8]) -> Self {
+        let stream = self.flush(output);
+        if stream.over {
+            return stream;
+        }
+        if stream.unwritten {
+            return stream.with_input(0, 0, true, false);
+        }
+        let got = libc::read(0, input);
+        let count = io::count(got, input);
+        stream.with_input(0, count, count == 0, got < 0)
+    }
+
+    // The next byte of the block.
+    fn byte_of(self, block: &[u8]) -> Byte {
+        let next = self.next;
+        let end = self.end;
+        if next < end {
+            if next < block.len() {
+                return Byte {
+                    stream: self.with_input(next + 1, end, false, false),
+                    byte: block[next],
+                    more: true,
+                };
+            }
+        }
+        Byte {
+            stream: self,
+            byte: 0,
+            more: false,
+        }
+    }
+
+    // The next byte of the input.
+    pub fn byte(self, input: &mut [u8], output: &[u8]) -> Byte {
+        if self.next < self.end {
+            return self.byte_of(input);
+        }
+        self.refill(input, output).byte_of(input)
+    }
+
+    // Fills the room with the bytes that come next; fewer where the input ends.
+    pub fn record(self, input: &mut [u8], output: &[u8], room: &mut [u8]) -> Filled
+        ensures { λ r. ⌜ Counts (r .count) (now (room .exit)) ⌝ }
+    {
+        self.read_first(input, output, room, room.len())
+    }
+
+    // The same with at most so many bytes.
+    pub fn read_first(self, input: &mut [u8], output: &[u8], room: &mut [u8], most: usize) -> Filled
+        ensures { λ r. ⌜ Counts (r .count) (now (room .exit)) ⌝ }
+    {
+        let mut stream = self;
+        let mut count = 0;
+        while count < room.len() {
+            if count == most {
+                return Filled {
+                    stream,
+                    count,
+                    number: Number::End,
+                };
+            }
+            let got = stream.byte(input, output);
+            stream = got.stream;
+            if !got.more {
+                return Filled {
+                    stream,
+                    count,
+                    number: Number::End,
+                };
+            }
+            room[count] = got.byte;
+            count += 1;
+        }
+        Filled {
+            stream,
+            count,
+            number: Number::End,
+        }
+    }
+
+    // Reads on in the block, up to what its bytes bring; nothing where they end before. The reader goes field by field: as a
+    // struct it would be copied at each byte, padding and all.
+    fn scan(self, block: &[u8]) -> Scanned {
+        let end = self.end;
+        let before = self.reader;
+        let mut place = before.place;
+        let mut start = before.start;
+        let mut value = before.value;
+        let mut begun = before.begun;
+        let mut next = self.next;
+        if end <= block.len() {
+            while next < end {
+                let reader = Reader {
+                    place: place,
+                    start: start,
+                    value: value,
+                    begun: begun,
+                };
+                let took = reader.take(block[next]);
+                let after = took.reader;
+                let event = took.event;
+                next += 1;
+                if brings(event) {
+                    return Scanned {
+                        stream: self.with_reader(next, after),
+                        event,
+                    };
+                }
+                place = after.place;
+                start = after.start;
+                value = after.value;
+                begun = after.begun;
+            }
+        }
+        Scanned {
+            stream: self.with_reader(
+                next,
+                Reader {
+                    place: place,
+                    start: start,
+                    value: value,
+                    begun: begun,
+                },
+            ),
             event: Event::Nothing,
         }
     }
 
-    pub fn take(self, byte: u8) -> Took {
-        if is_white(byte) {
-            let after = Reader::between(further(self.place));
-            if self.begun {
-                return Took {
-                    reader: after,
-                    event: Event::Word(self.value),
+    // The next number of the input.
+    pub fn number(self, input: &mut [u8], output: &[u8]) -> Numbered {
+        let mut stream = self;
+        let mut turns = u64::MAX;
+        while turns > 0 {
+            let scanned = stream.scan(input);
+            stream = scanned.stream;
+            let event = scanned.event;
+            if brings(event) {
+                return Numbered {
+                    stream,
+                    number: number_of(event),
                 };
             }
-            return Took {
-                reader: after,
-                event: Event::Nothing,
+            stream = stream.refill(input, output);
+            if stream.end == 0 {
+                return stream.last_number();
+            }
+            turns -= 1;
+        }
+        Numbered {
+            stream,
+            number: Number::End,
+        }
+    }
+
+    // What the end of the input brings: a number that it ends, once. A read that failed is not the end, and what was begun
+    // before it no number.
+    fn last_number(self) -> Numbered {
+        let before = self.reader;
+        let next = self.next;
+        let stream = self.with_reader(next, Reader::new());
+        if stream.unread {
+            return Numbered {
+                stream,
+                number: Number::End,
             };
         }
-        if byte < 48 {
-            return Took {
-                reader: self,
-                event: Event::NoNumber(self.first()),
-            };
+        Numbered {
+            stream,
+            number: number_of(before.end()),
         }
-        if 57 < byte {
-            return Took {
-                reader: self,
-                event: Event::NoNumber(self.first()),
-            };
-        }
-        self.with_digit(byte - 48)
     }
 
-    // What the end of the input brings.
-    pub fn end(self) -> Event {
-        if self.begun {
-            return Event::Word(self.value);
-        }
-        Event::Nothing
-    }
-}
-
-// Numbers gathered into lent room: how many, whether no more are read, and whether something that is no number stopped it,
-// and where that stands.
-pub struct Gathered {
-    pub reader: Reader,
-    pub count: usize,
-    pub done: bool,
-    pub faulty: bool,
-    pub place: u64,
-}
-
-impl Gathered {
-    fn new() -> Self
-        ensures { λ r. ⌜ r .count ≤ 0 ⌝ }
+    // Puts the numbers that come next into the room, until it is full, the input ends, or something is no number.
+    pub fn numbers(self, input: &mut [u8], output: &[u8], room: &mut [u8]) -> Filled
+        ensures { λ r. ⌜ Counts (r .count) (now (room .exit)) ⌝ }
     {
-        Gathered {
-            reader: Reader::new(),
-            count: 0,
-            done: false,
-            faulty: false,
-            place: 0,
+        let mut stream = self;
+        let mut count = 0;
+        while count < room.len() {
+            let got = stream.number(input, output);
+            stream = got.stream;
+            let number = got.number;
+            match number {
+                Number::Word(word) => {
+                    room[count] = word;
+                    count += 1;
+                }
+                Number::End | Number::Over(_) | Number::NoDigit(_) => {
+                    return Filled {
+                        stream,
+                        count,
+                        number,
+                    };
+                }
+            }
+        }
+        Filled {
+            stream,
+            count,
+            number: Number::End,
         }
     }
 
-    fn read_on(self, reader: Reader) -> Self
-        ensures { λ r. ⌜ r .count ≤ self .count ⌝ }
-    {
-        Gathered {
-            reader: reader,
-            count: self.count,
-            done: self.done,
-            faulty: self.faulty,
-            place: self.place,
-        }
-    }
-
-    fn ended(self) -> Self
-        ensures { λ r. ⌜ r .count ≤ self .count ⌝ }
-    {
-        let reader = self.reader;
-        Gathered {
-            reader: reader,
-            count: self.count,
-            done: true,
-            faulty: self.faulty,
-            place: self.place,
-        }
-    }
-
-    fn stopped(self, place: u64) -> Self
-        ensures { λ r. ⌜ r .count ≤ self .count ⌝ }
-    {
-        let reader = self.reader;
-        Gathered {
-            reader: reader,
-            count: self.count,
-            done: true,
-            faulty: true,
-            place: place,
-        }
-    }
-
-    // The word put into the room; where that fills it, no more are read.
-    fn put(self, word: u8, room: &mut [u8]) -> Self
-        requires { ⌜ self .count ≤ length (now room) ⌝ }
-        ensures { λ r. ⌜ r .count ≤ length (now (room .exit)) ⌝ }
-    {
-        let reader = self.reader;
-        let count = self.count;
-        if room.len() <= count {
-            return self.ended();
-        }
-        room[count] = word;
-        Gathered {
-            reader: reader,
-            count: count + 1,
-            done: count + 1 == room.len(),
-            faulty: self.faulty,
-            place: self.place,
-        }
-    }
-
-    fn hear(self, event: Event, room: &mut [u8]) -> Self
-        requires { ⌜ self .count ≤ length (now room) ⌝ }
-        ensures { λ r. ⌜ r .count ≤ length (now (room .exit)) ⌝ }
-    {
-        match event {
-            Event::Nothing => self,
-            Event::Word(word) => self.put(word, room),
-            Event::NoNumber(place) => self.stopped(place),
-        }
-    }
-
-    fn take(self, byte: u8, room: &mut [u8]) -> Self
-        requires { ⌜ self .count ≤ length (now room) ⌝ }
-        ensures { λ r. ⌜ r .count ≤ length (now (room .exit)) ⌝ }
-    {
-        if self.done {
+    // Room for so many bytes more: where there is less, what waits is written.
+    fn with_room(self, output: &[u8], bytes: usize) -> Self {
+        if has_room(output, self.waiting, bytes) {
             return self;
         }
-        let reader = self.reader;
-        let took = reader.take(byte);
-        let next = took.reader;
-        let event = took.event;
-        self.read_on(next).hear(event, room)
+        self.flush(output)
     }
 
-    fn take_all(self, bytes: &[u8], room: &mut [u8]) -> Self
-        requires { ⌜ self .count ≤ length (now room) ⌝ }
-        ensures { λ r. ⌜ r .count ≤ length (now (room .exit)) ⌝ }
-    {
-        let mut gathered = self;
+    pub fn put(self, output: &mut [u8], byte: u8) -> Self {
+        let stream = self.with_room(output, 1);
+        let column = stream.column;
+        let unwritten = stream.unwritten;
+        let at = numbers::put(output, stream.waiting, byte);
+        stream.with_output(at, column, unwritten)
+    }
+
+    pub fn put_all(self, output: &mut [u8], bytes: &[u8]) -> Self {
+        self.put_first(output, bytes, bytes.len())
+    }
+
+    // The first `count` of the bytes.
+    pub fn put_first(self, output: &mut [u8], bytes: &[u8], count: usize) -> Self {
+        let mut stream = self;
         let mut i = 0;
         while i < bytes.len() {
-            gathered = gathered.take(bytes[i], room);
+            if count <= i {
+                return stream;
+            }
+            stream = stream.put(output, bytes[i]);
             i += 1;
         }
-        gathered
+        stream
     }
 
-    // Reads once more from standard input.
-    fn read_some(self, room: &mut [u8]) -> Self
-        requires { ⌜ self .count ≤ length (now room) ⌝ }
-        ensures { λ r. ⌜ r .count ≤ length (now (room .exit)) ⌝ }
-    {
-        let mut buffer = [0u8; 4096];
-        let got = libc::read(0, &mut buffer);
-        let n = io::count(got, &buffer);
-        if n == 0 {
-            let reader = self.reader;
-            return self.hear(reader.end(), room).ended();
+    // The first `count` bytes of a line, which is shorter than the output room.
+    pub fn put_line(self, output: &mut [u8], line: &[u8], count: usize) -> Self {
+        if line.len() < count {
+            return self;
         }
-        self.take_all(&buffer[..n], room)
+        let stream = self.with_room(output, count);
+        let column = stream.column;
+        let unwritten = stream.unwritten;
+        let at = numbers::put_all(output, stream.waiting, &line[..count]);
+        stream.with_output(at, column, unwritten)
     }
-}
 
-// Reads numbers from standard input until the room is full, the input ends, or something is no number.
-pub fn read_words(room: &mut [u8]) -> Gathered
-    ensures { λ r. ⌜ r .count ≤ length (now (room .exit)) ⌝ }
-{
-    let mut gathered = Gathered::new();
-    let mut turns = u64::MAX;
-    while turns > 0 {
-        if gathered.done {
-            return gathered;
+    // A word as it is written, sixteen to a line.
+    pub fn put_word(self, output: &mut [u8], word: u8) -> Self {
+        if has_room(output, self.waiting, numbers::LONGEST) {
+            return self.store_word(output, word);
         }
-        gathered = gathered.read_some(room);
-        turns -= 1;
+        self.flush(output).store_word(output, word)
     }
-    gathered
-}
 
-// Writes one word, sixteen to a line; `column` words stand on the line already. Answers the column after it.
-pub fn write_word(column: usize, word: u8) -> usize {
-    if column != 0 {
-        io::write_all(1, b" ");
+    fn store_word(self, output: &mut [u8], word: u8) -> Self {
+        let unwritten = self.unwritten;
+        let put = numbers::put_word(output, self.waiting, self.column, word);
+        self.with_output(put.at, put.column, unwritten)
     }
-    io::print_decimal(1, word as u64);
-    if 15 <= column {
-        io::write_all(1, b"\n");
-        return 0;
-    }
-    column + 1
-}
 
-// Ends a line that has been begun.
-pub fn end_line(column: usize) {
-    if column != 0 {
-        io::write_all(1, b"\n");
-    }
-}
-
-// Writes the first `count` of the words.
-pub fn write_words(words: &[u8], count: usize) {
-    let mut column = 0;
-    let mut i = 0;
-    while i < words.len() {
-        if i < count {
-            column = write_word(column, words[i]);
+    // Ends the line of words, if one has been begun.
+    pub fn end_line(self, output: &mut [u8]) -> Self {
+        if self.column == 0 {
+            return self;
         }
-        i += 1;
+        let stream = self.put(output, 10);
+        let waiting = stream.waiting;
+        let unwritten = stream.unwritten;
+        stream.with_output(waiting, 0, unwritten)
     }
-    end_line(column);
+
+    // A number's decimal digits.
+    pub fn put_decimal(self, output: &mut [u8], number: u64) -> Self {
+        let mut digits = [0u8; 20];
+        let count = io::decimal(number, &mut digits);
+        self.put_all(output, &digits[..count])
+    }
+
+    // Two capital hexadecimal digits for each byte.
+    pub fn put_hex(self, output: &mut [u8], bytes: &[u8]) -> Self {
+        let mut stream = self;
+        let mut i = 0;
+        while i < bytes.len() {
+            stream = stream.put_hex_byte(output, bytes[i]);
+            i += 1;
+        }
+        stream
+    }
+
+    fn put_hex_byte(self, output: &mut [u8], byte: u8) -> Self {
+        let stream = self.with_room(output, 2);
+        let column = stream.column;
+        let unwritten = stream.unwritten;
+        let at = numbers::put_hex(output, stream.waiting, byte);
+        stream.with_output(at, column, unwritten)
+    }
+
+    // The number and the value of a refusal that is a line of the output.
+    pub fn put_refusal(self, output: &mut [u8], number: u64, value: u64) -> Self {
+        self.put_all(output, b"refused ")
+            .put_decimal(output, number)
+            .put(output, 32)
+            .put_decimal(output, value)
+    }
+
+    // The first `count` of the words, as they are written, and the end of their last line.
+    pub fn put_words(self, output: &mut [u8], words: &[u8], count: usize) -> Self {
+        let mut stream = self;
+        let mut i = 0;
+        while i < words.len() {
+            if count <= i {
+                return stream.end_line(output);
+            }
+            stream = stream.put_word(output, words[i]);
+            i += 1;
+        }
+        stream.end_line(output)
+    }
+
+    // Whether a read has failed, which is told: what was read is then not the whole input.
+    pub fn failed(self, name: &[u8]) -> bool {
+        if self.unread {
+            tell(name, b"cannot read standard input");
+            return true;
+        }
+        false
+    }
+
+    // Writes what waits, and tells where a read or a write has failed.
+    pub fn finish(self, output: &[u8], name: &[u8]) {
+        let stream = self.flush(output);
+        if stream.unwritten {
+            tell(name, b"cannot write standard output");
+            return;
+        }
+        stream.failed(name);
+    }
 }
 
-// Writes the number and the value of a refusal, with no line end.
-pub fn write_refusal(fd: i32, number: u64, value: u64) {
-    io::write_all(fd, b"refused ");
-    io::print_decimal(fd, number);
-    io::write_all(fd, b" ");
-    io::print_decimal(fd, value);
+// Whether so many bytes more fit behind those that wait.
+fn has_room(output: &[u8], waiting: usize, bytes: usize) -> bool {
+    if output.len() < waiting {
+        return false;
+    }
+    bytes <= output.len() - waiting
 }
 
-// Tells a refusal on standard error.
-pub fn tell_refusal(number: u64, value: u64) {
-    write_refusal(2, number, value);
-    io::write_all(2, b"\n");
+// Writes the first bytes of a room; answers whether they were written.
+fn write_first(fd: i32, room: &[u8], count: usize) -> bool {
+    if room.len() < count {
+        return false;
+    }
+    io::write_all(fd, &room[..count])
 }
 
-// Tells on standard error what stands at a place of the input.
-pub fn tell_place(what: &[u8], place: u64) {
-    io::write_all(2, what);
-    io::print_decimal(2, place);
-    io::write_all(2, b"\n");
+// A Rattle program has no exit status: it writes the digit of it to descriptor 3, which the script `telex` reads.
+fn end_with(digit: u8) {
+    io::write_all(3, &[digit]);
+}
+
+fn put_decimal(line: &mut [u8], at: usize, number: u64) -> usize {
+    let mut digits = [0u8; 20];
+    let count = io::decimal(number, &mut digits);
+    numbers::put_all(line, at, &digits[..count])
+}
+
+// Writes the line to standard error at once, so that programs of a pipe do not write into each other's.
+fn write_line(line: &mut [u8], at: usize) {
+    let end = numbers::put(line, at, 10);
+    write_first(2, line, end);
+}
+
+// Tells the words on a line of standard error, behind the program's name. The line has room for what is told here.
+pub fn tell(name: &[u8], words: &[u8]) {
+    let mut line = [0u8; 160];
+    let mut at = numbers::put_all(&mut line, 0, name);
+    at = numbers::put_all(&mut line, at, b": ");
+    at = numbers::put_all(&mut line, at, words);
+    write_line(&mut line, at);
+    end_with(b'1');
+}
+
+// Tells what stands at a place of the input, and why it is wrong.
+pub fn tell_place(name: &[u8], what: &[u8], place: u64, why: &[u8]) {
+    let mut line = [0u8; 160];
+    let mut at = numbers::put_all(&mut line, 0, name);
+    at = numbers::put_all(&mut line, at, b": ");
+    at = numbers::put_all(&mut line, at, what);
+    at = put_decimal(&mut line, at, place);
+    at = numbers::put_all(&mut line, at, b": ");
+    at = numbers::put_all(&mut line, at, why);
+    write_line(&mut line, at);
+    end_with(b'1');
+}
+
+// Tells a refusal: its number and value, and then in words, the value between `before` and `after`.
+pub fn tell_refusal(name: &[u8], number: u64, value: u64, before: &[u8], after: &[u8]) {
+    let mut line = [0u8; 160];
+    let mut at = numbers::put_all(&mut line, 0, name);
+    at = numbers::put_all(&mut line, at, b": refused ");
+    at = put_decimal(&mut line, at, number);
+    at = numbers::put(&mut line, at, 32);
+    at = put_decimal(&mut line, at, value);
+    at = numbers::put_all(&mut line, at, b": ");
+    at = numbers::put_all(&mut line, at, before);
+    at = put_decimal(&mut line, at, value);
+    at = numbers::put_all(&mut line, at, after);
+    write_line(&mut line, at);
+    end_with(b'1');
+}
+
+// Tells what is no number; answers whether there was such.
+pub fn tell_number(name: &[u8], number: Number) -> bool {
+    match number {
+        Number::Word(_) => false,
+        Number::End => false,
+        Number::Over(place) => {
+            tell_place(name, b"not a number at ", place, b"over 255");
+            true
+        }
+        Number::NoDigit(place) => {
+            tell_place(name, b"not a number at ", place, b"a byte that is no digit");
+            true
+        }
+    }
+}
+
+// Whether words were handed to a program that takes none, which is told.
+pub fn has_words(name: &[u8]) -> bool {
+    if os::arg_count() <= 1 {
+        return false;
+    }
+    let mut line = [0u8; 160];
+    let mut at = numbers::put_all(&mut line, 0, name);
+    at = numbers::put_all(&mut line, at, b": usage: ./telex ");
+    at = numbers::put_all(&mut line, at, name);
+    at = numbers::put_all(&mut line, at, b" < input");
+    write_line(&mut line, at);
+    end_with(b'2');
+    true
 }

@@ -1,186 +1,178 @@
 // A fresh slave hears standard input, three bytes to a burst (docs/FORMATS.md; 01, Worked examples).
+use filters::Stream;
 use mode_a::Offer;
-use mode_a::Reply;
 use mode_a::Station;
-use mode_a::Stepped;
 use mode_a::Words;
 use signals::Case;
 use text::Printed;
-ghost use Prim.Native.Nat.{_<_, _≤_};
 
-// What goes from step to step: the slave, and the case that its printing has come to.
+// What goes from step to step: the slave, the case that its printing has come to, and the streams.
 pub struct Hearing {
     pub slave: Station,
     pub case: Case,
+    pub stream: Stream,
 }
 
-// A step's answer. A refusal, which no fresh slave without offers comes to, sends and prints nothing.
-fn reply_of(stepped: Stepped) -> Reply {
-    match stepped {
-        Stepped::Done(reply) => reply,
-        Stepped::BadStation(s) => silent(s),
-        Stepped::BadWord(_, s) => silent(s),
-    }
+// The place past what was put, and the case after it.
+pub struct Put {
+    pub at: usize,
+    pub case: Case,
 }
 
-fn silent(s: Station) -> Reply {
-    Reply {
-        station: s,
-        sent: mode_a::SILENCE,
-        printed: mode_a::SILENCE,
-        taken: false,
-    }
-}
-
-fn write_name(word: u8) {
+fn put_name(line: &mut [u8], at: usize, word: u8) -> usize {
     if word == signals::CS1 {
-        io::write_all(1, b"CS1");
-        return;
+        return numbers::put_all(line, at, b"CS1");
     }
     if word == signals::CS2 {
-        io::write_all(1, b"CS2");
-        return;
+        return numbers::put_all(line, at, b"CS2");
     }
     if word == signals::CS3 {
-        io::write_all(1, b"CS3");
-        return;
+        return numbers::put_all(line, at, b"CS3");
     }
     if word == signals::RQ {
-        io::write_all(1, b"RQ");
-        return;
+        return numbers::put_all(line, at, b"RQ");
     }
     if word == signals::ALPHA {
-        io::write_all(1, b"alpha");
-        return;
+        return numbers::put_all(line, at, b"alpha");
     }
     if word == signals::BETA {
-        io::write_all(1, b"beta");
-        return;
+        return numbers::put_all(line, at, b"beta");
     }
     // a slave without offers sends no other
-    io::print_decimal(1, word as u64);
+    numbers::put_number(line, at, word)
 }
 
-fn write_next(word: u8) {
-    if word != 0 {
-        io::write_all(1, b".");
-        write_name(word);
+fn put_next(line: &mut [u8], at: usize, word: u8) -> usize {
+    if word == 0 {
+        return at;
     }
+    let to = numbers::put(line, at, b'.');
+    put_name(line, to, word)
 }
 
 // The words sent, by name. Only silence begins with 0.
-fn write_sent(sent: Words) {
+fn put_sent(line: &mut [u8], at: usize, sent: Words) -> usize {
     if sent.0 == 0 {
-        io::write_all(1, b"silent");
-        return;
+        return numbers::put_all(line, at, b"silent");
     }
-    write_name(sent.0);
-    write_next(sent.1);
-    write_next(sent.2);
-}
-
-// How many signals are printed: 0 stands behind the last.
-fn signals_in(printed: Words) -> usize
-    ensures { λ r. ⌜ r ≤ 3 ⌝ }
-{
-    if printed.0 == 0 {
-        return 0;
-    }
-    if printed.1 == 0 {
-        return 1;
-    }
-    if printed.2 == 0 {
-        return 2;
-    }
-    3
-}
-
-fn digit(value: u8) -> u8
-    requires { ⌜ value < 16 ⌝ }
-{
-    if value < 10 {
-        return 48 + value;
-    }
-    55 + value
-}
-
-fn write_byte(byte: u8) {
-    let digits = [digit(byte / 16 % 16), digit(byte % 16)];
-    io::write_all(1, &digits);
+    let one = put_name(line, at, sent.0);
+    let two = put_next(line, one, sent.1);
+    put_next(line, two, sent.2)
 }
 
 // The first `count` bytes in hexadecimal.
-fn write_bytes(bytes: [u8; 3], count: usize) {
+fn put_bytes(line: &mut [u8], at: usize, bytes: [u8; 3], count: usize) -> usize {
     if count == 0 {
-        io::write_all(1, b"none");
+        return numbers::put_all(line, at, b"none");
     }
-    if 1 <= count {
-        write_byte(bytes[0]);
+    let one = numbers::put_hex(line, at, bytes[0]);
+    if count == 1 {
+        return one;
     }
-    if 2 <= count {
-        write_byte(bytes[1]);
+    let two = numbers::put_hex(line, one, bytes[1]);
+    if count == 2 {
+        return two;
     }
-    if 3 <= count {
-        write_byte(bytes[2]);
-    }
+    numbers::put_hex(line, two, bytes[2])
 }
 
-// Prints the signals from the case, writes the bytes that they give, and answers the case after them.
-fn write_printed(printed: Words, case: Case) -> Case {
-    let words = [printed.0, printed.1, printed.2];
-    let count = signals_in(printed);
+// Prints the signals, of which there is one at least: 0 stands behind the last.
+fn print(printed: Words, case: Case, room: &mut [u8]) -> Printed {
+    if printed.1 == 0 {
+        return printing::print(&[printed.0], case, room);
+    }
+    if printed.2 == 0 {
+        return printing::print(&[printed.0, printed.1], case, room);
+    }
+    printing::print(&[printed.0, printed.1, printed.2], case, room)
+}
+
+// Prints the signals from the case, if there are any, and puts the bytes that they give.
+fn put_printed(line: &mut [u8], at: usize, printed: Words, case: Case) -> Put {
     let mut room = [0u8; 3];
-    let answer = printing::print(&words[..count], case, &mut room);
+    if printed.0 == 0 {
+        return Put {
+            at: put_bytes(line, at, room, 0),
+            case,
+        };
+    }
+    let answer = print(printed, case, &mut room);
     match answer {
         Printed::Written {
             count: written,
             ends,
-        } => {
-            write_bytes(room, written);
-            ends
-        }
+        } => Put {
+            at: put_bytes(line, at, room, written),
+            case: ends,
+        },
         // not reached: printed signals are traffic, and three of them need no more room
-        Printed::TooLong => case,
-        Printed::BadWord(_) => case,
-        Printed::NoRoom(_) => case,
+        Printed::TooLong => Put { at, case },
+        Printed::BadWord(_) => Put { at, case },
+        Printed::NoRoom(_) => Put { at, case },
     }
 }
 
-// One step, and its line.
-fn heard(before: Hearing, burst: Words, step: u64) -> Hearing {
+// One step, and its line. No fresh slave without offers comes to a refusal.
+fn heard(before: Hearing, output: &mut [u8], burst: Words, step: u64) -> Hearing {
     let slave = before.slave;
     let case = before.case;
-    let reply = reply_of(station::step(slave, burst, Offer::Nothing));
+    let stream = before.stream;
+    let reply = fields::reply_of(station::step(slave, burst, Offer::Nothing));
     let after = reply.station;
     let sent = reply.sent;
     let printed = reply.printed;
-    io::print_decimal(1, step);
-    io::write_all(1, b" ");
-    write_sent(sent);
-    io::write_all(1, b" ");
-    let ends = write_printed(printed, case);
-    io::write_all(1, b"\n");
+    let mut line = [0u8; 32];
+    let mut at = numbers::put(&mut line, 0, 32);
+    at = put_sent(&mut line, at, sent);
+    at = numbers::put(&mut line, at, 32);
+    let put = put_printed(&mut line, at, printed, case);
+    let ends = put.case;
+    at = numbers::put(&mut line, put.at, 10);
     Hearing {
         slave: after,
         case: ends,
+        stream: stream.put_decimal(output, step).put_line(output, &line, at),
     }
 }
 
+// The next burst read and heard. A short last one keeps its zeros.
+fn turn(before: Hearing, input: &mut [u8], output: &mut [u8], step: u64) -> Hearing {
+    let slave = before.slave;
+    let case = before.case;
+    let stream = before.stream;
+    let mut burst = [0u8; 3];
+    let read = stream.record(input, output, &mut burst);
+    let after = read.stream;
+    let hearing = Hearing {
+        slave,
+        case,
+        stream: after,
+    };
+    if read.count == 0 {
+        return hearing;
+    }
+    heard(hearing, output, Words(burst[0], burst[1], burst[2]), step)
+}
+
 fn main() {
-    io::write_all(1, b"step answer printed\n");
+    if filters::has_words(b"hear") {
+        return;
+    }
+    let mut input = [0u8; 4096];
+    let mut output = [0u8; 4096];
     let mut hearing = Hearing {
         slave: Station::fresh_slave(),
         case: Case::Letters,
+        stream: Stream::new().put_all(&mut output, b"step answer printed\n"),
     };
     let mut step: u64 = 0;
     while step < u64::MAX {
-        // a short last burst keeps its zeros
-        let mut burst = [0u8; 3];
-        let got = io::read_full(0, &mut burst);
-        if got == 0 {
+        let stream = hearing.stream;
+        if stream.over {
+            stream.finish(&output, b"hear");
             return;
         }
         step += 1;
-        hearing = heard(hearing, Words(burst[0], burst[1], burst[2]), step);
+        hearing = turn(hearing, &mut input, &mut output, step);
     }
 }

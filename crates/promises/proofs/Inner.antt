@@ -2,11 +2,17 @@
 -- Assumes nothing.
 use mathlib.Core.Path.{_≡_, subst}
 use mathlib.Core.Bool.{Bool}
-use mathlib.Core.List.{List}
+use mathlib.Core.List.{List, [], _∷_}
 use Prim.Native.Nat.{ℕ, _<_}
 use lib.ListN.{length}
 use lib.Seq.{ext-getD}
 use Rattle.laws.proofs.Unique.{unique}
+use Rattle.numbers.specs.declared.Reader.{Reader}
+use Rattle.numbers.specs.declared.Event.{Event}
+use Rattle.numbers.specs.declared.Took.{Took}
+use Rattle.numbers.specs.declared.Line.{Line}
+use Rattle.numbers.specs.Steps.{freshReader, taking, endBrings}
+use Rattle.numbers.specs.Writing.{Puts, decimal, hexadecimal, PutsWord}
 use Rattle.signals.specs.declared.Row.{Row}
 use Rattle.signals.specs.Meaning.{trafficOf}
 use Rattle.signals.specs.Rows.{row, Rows}
@@ -86,3 +92,33 @@ requests-unique role r r′ p q = unique p q
 -- `replies::done`
 pub done-unique : (s : Station) (b : Words) (o : Offer) (d : Doing) (r r′ : Reply) → r ≡ done s b o d → r′ ≡ done s b o d → r ≡ r′
 done-unique s b o d r r′ p q = unique p q
+
+-- `numbers::Reader`
+pub new-unique : (r r′ : Reader) → r ≡ freshReader → r′ ≡ freshReader → r ≡ r′
+new-unique r r′ p q = unique p q
+
+pub take-unique : (self : Reader) (byte : ℕ) (r r′ : Took) → r ≡ taking self byte → r′ ≡ taking self byte → r ≡ r′
+take-unique self byte r r′ p q = unique p q
+
+pub end-unique : (self : Reader) (r r′ : Event) → r ≡ endBrings self → r′ ≡ endBrings self → r ≡ r′
+end-unique self r r′ p q = unique p q
+
+-- `numbers::put` and the others that store: the answer, and the lent room
+puts-unique : (room : List ℕ) (at : ℕ) (bytes : List ℕ) (r r′ : ℕ) (after after′ : List ℕ) → Puts room at bytes r after → Puts room at bytes r′ after′ → (r ≡ r′) × (after ≡ after′)
+puts-unique room at bytes r r′ after after′ p q = (unique (p .ended) (q .ended), unique (p .holds) (q .holds))
+
+pub put-unique : (room : List ℕ) (at byte : ℕ) (r r′ : ℕ) (after after′ : List ℕ) → Puts room at (byte ∷ []) r after → Puts room at (byte ∷ []) r′ after′ → (r ≡ r′) × (after ≡ after′)
+put-unique room at byte r r′ after after′ p q = puts-unique room at (byte ∷ []) r r′ after after′ p q
+
+pub put-all-unique : (room : List ℕ) (at : ℕ) (bytes : List ℕ) (r r′ : ℕ) (after after′ : List ℕ) → Puts room at bytes r after → Puts room at bytes r′ after′ → (r ≡ r′) × (after ≡ after′)
+put-all-unique room at bytes r r′ after after′ p q = puts-unique room at bytes r r′ after after′ p q
+
+pub put-number-unique : (room : List ℕ) (at number : ℕ) (r r′ : ℕ) (after after′ : List ℕ) → Puts room at (decimal number) r after → Puts room at (decimal number) r′ after′ → (r ≡ r′) × (after ≡ after′)
+put-number-unique room at number r r′ after after′ p q = puts-unique room at (decimal number) r r′ after after′ p q
+
+pub put-hex-unique : (room : List ℕ) (at byte : ℕ) (r r′ : ℕ) (after after′ : List ℕ) → Puts room at (hexadecimal byte) r after → Puts room at (hexadecimal byte) r′ after′ → (r ≡ r′) × (after ≡ after′)
+put-hex-unique room at byte r r′ after after′ p q = puts-unique room at (hexadecimal byte) r r′ after after′ p q
+
+pub put-word-unique : (room : List ℕ) (at column word : ℕ) (r r′ : Line) (after after′ : List ℕ) → PutsWord room at column word r after → PutsWord room at column word r′ after′ → (r ≡ r′) × (after ≡ after′)
+put-word-unique room at column word r r′ after after′ p q =
+    (λ i. record { at = unique (p .0 .ended) (q .0 .ended) i; column = unique (p .1) (q .1) i }, unique (p .0 .holds) (q .0 .holds))

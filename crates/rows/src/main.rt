@@ -1,4 +1,5 @@
 // Writes the table of actions, a line a cell, then the kind of each burst of three bytes that it reads (docs/FORMATS.md).
+use filters::Stream;
 use mode_a::Ended;
 use mode_a::Held;
 use mode_a::Number;
@@ -7,207 +8,192 @@ use mode_a::Words;
 use table::Action;
 use table::Kind;
 
-fn write_kind(kind: Kind) {
+// The places and the kinds in 01's order. What a place holds does not choose its row.
+fn place_at(no: u64) -> Place {
+    match no {
+        0 => Place::Sending(Held {
+            number: Number::One,
+            block: mode_a::SILENCE,
+        }),
+        1 => Place::Turning(Number::One),
+        2 => Place::Opening,
+        3 => Place::Ending(Ended {
+            number: Number::One,
+            total: 1,
+        }),
+        4 => Place::Receiving(Number::One),
+        5 => Place::Asking,
+        6 => Place::StandBy,
+        _ => Place::Lost,
+    }
+}
+
+fn kind_at(no: u64) -> Kind {
+    match no {
+        0 => Kind::Cs1Block,
+        1 => Kind::Cs1,
+        2 => Kind::Cs2Block,
+        3 => Kind::Cs2,
+        4 => Kind::Cs3Block,
+        5 => Kind::Cs3,
+        6 => Kind::Rqs,
+        7 => Kind::Rq,
+        8 => Kind::Block,
+        9 => Kind::Turn,
+        10 => Kind::Alphas,
+        _ => Kind::Else,
+    }
+}
+
+fn kind_no(kind: Kind) -> u64 {
     match kind {
-        Kind::Cs1Block => {
-            io::write_all(1, b"cs1-block");
-        }
-        Kind::Cs1 => {
-            io::write_all(1, b"cs1");
-        }
-        Kind::Cs2Block => {
-            io::write_all(1, b"cs2-block");
-        }
-        Kind::Cs2 => {
-            io::write_all(1, b"cs2");
-        }
-        Kind::Cs3Block => {
-            io::write_all(1, b"cs3-block");
-        }
-        Kind::Cs3 => {
-            io::write_all(1, b"cs3");
-        }
-        Kind::Rqs => {
-            io::write_all(1, b"rqs");
-        }
-        Kind::Rq => {
-            io::write_all(1, b"rq");
-        }
-        Kind::Block => {
-            io::write_all(1, b"block");
-        }
-        Kind::Turn => {
-            io::write_all(1, b"turn");
-        }
-        Kind::Alphas => {
-            io::write_all(1, b"alphas");
-        }
-        Kind::Else => {
-            io::write_all(1, b"else");
-        }
+        Kind::Cs1Block => 0,
+        Kind::Cs1 => 1,
+        Kind::Cs2Block => 2,
+        Kind::Cs2 => 3,
+        Kind::Cs3Block => 4,
+        Kind::Cs3 => 5,
+        Kind::Rqs => 6,
+        Kind::Rq => 7,
+        Kind::Block => 8,
+        Kind::Turn => 9,
+        Kind::Alphas => 10,
+        Kind::Else => 11,
     }
 }
 
-fn write_action(action: Action) {
+fn put_where(line: &mut [u8], at: usize, byte: u8, wanted: bool) -> usize {
+    if wanted {
+        return numbers::put(line, at, byte);
+    }
+    at
+}
+
+// The name that has so many others before it in a list, with a space behind each.
+fn put_name(line: &mut [u8], at: usize, names: &[u8], before: u64) -> usize {
+    let mut to = at;
+    let mut left = before;
+    let mut i = 0;
+    while i < names.len() {
+        let byte = names[i];
+        i += 1;
+        if byte != 32 {
+            to = put_where(line, to, byte, left == 0);
+        } else {
+            if left == 0 {
+                return to;
+            }
+            left -= 1;
+        }
+    }
+    to
+}
+
+// A space and the kind.
+fn put_kind(line: &mut [u8], at: usize, kind: Kind) -> usize {
+    let to = numbers::put(line, at, 32);
+    put_name(
+        line,
+        to,
+        b"cs1-block cs1 cs2-block cs2 cs3-block cs3 rqs rq block turn alphas else ",
+        kind_no(kind),
+    )
+}
+
+fn action_no(action: Action) -> u64 {
     match action {
-        Action::Asked1 => {
-            io::write_all(1, b"asked-1");
-        }
-        Action::Asked2 => {
-            io::write_all(1, b"asked-2");
-        }
-        Action::Turn => {
-            io::write_all(1, b"turn");
-        }
-        Action::Rqs => {
-            io::write_all(1, b"rqs");
-        }
-        Action::TurnAgain => {
-            io::write_all(1, b"turn-again");
-        }
-        Action::Receive => {
-            io::write_all(1, b"receive");
-        }
-        Action::ReceiveIfSlave => {
-            io::write_all(1, b"receive-if-slave");
-        }
-        Action::Take1 => {
-            io::write_all(1, b"take-1");
-        }
-        Action::Take2 => {
-            io::write_all(1, b"take-2");
-        }
-        Action::StandBy => {
-            io::write_all(1, b"stand-by");
-        }
-        Action::Request => {
-            io::write_all(1, b"request");
-        }
-        Action::Ended1 => {
-            io::write_all(1, b"ended-1");
-        }
-        Action::Ended2 => {
-            io::write_all(1, b"ended-2");
-        }
-        Action::EndAgain => {
-            io::write_all(1, b"end-again");
-        }
-        Action::Accept => {
-            io::write_all(1, b"accept");
-        }
-        Action::AskAgain => {
-            io::write_all(1, b"ask-again");
-        }
-        Action::Finish => {
-            io::write_all(1, b"finish");
-        }
-        Action::Cs3Again => {
-            io::write_all(1, b"cs3-again");
-        }
-        Action::Open => {
-            io::write_all(1, b"open");
-        }
-        Action::Silent => {
-            io::write_all(1, b"silent");
-        }
+        Action::Asked1 => 0,
+        Action::Asked2 => 1,
+        Action::Turn => 2,
+        Action::Rqs => 3,
+        Action::TurnAgain => 4,
+        Action::Receive => 5,
+        Action::ReceiveIfSlave => 6,
+        Action::Take1 => 7,
+        Action::Take2 => 8,
+        Action::StandBy => 9,
+        Action::Request => 10,
+        Action::Ended1 => 11,
+        Action::Ended2 => 12,
+        Action::EndAgain => 13,
+        Action::Accept => 14,
+        Action::AskAgain => 15,
+        Action::Finish => 16,
+        Action::Cs3Again => 17,
+        Action::Open => 18,
+        Action::Silent => 19,
     }
 }
 
-fn write_place(place: Place) {
-    match place {
-        Place::Sending(_) => {
-            io::write_all(1, b"sending ");
-        }
-        Place::Turning(_) => {
-            io::write_all(1, b"turning ");
-        }
-        Place::Opening => {
-            io::write_all(1, b"opening ");
-        }
-        Place::Ending(_) => {
-            io::write_all(1, b"ending ");
-        }
-        Place::Receiving(_) => {
-            io::write_all(1, b"receiving ");
-        }
-        Place::Asking => {
-            io::write_all(1, b"asking ");
-        }
-        Place::StandBy => {
-            io::write_all(1, b"standby ");
-        }
-        Place::Lost => {
-            io::write_all(1, b"lost ");
-        }
+// A space and the action.
+fn put_action(line: &mut [u8], at: usize, action: Action) -> usize {
+    let to = numbers::put(line, at, 32);
+    put_name(
+        line,
+        to,
+        b"asked-1 asked-2 turn rqs turn-again receive receive-if-slave take-1 take-2 stand-by request ended-1 ended-2 end-again accept ask-again finish cs3-again open silent ",
+        action_no(action),
+    )
+}
+
+fn put_cell(stream: Stream, output: &mut [u8], place: Place, kind: Kind) -> Stream {
+    let mut line = [0u8; 64];
+    let mut at = fields::put_place(&mut line, 0, place);
+    at = put_kind(&mut line, at, kind);
+    at = put_action(&mut line, at, table::action_at(place, kind));
+    at = numbers::put(&mut line, at, 10);
+    stream.put_line(output, &line, at)
+}
+
+fn put_table(first: Stream, output: &mut [u8]) -> Stream {
+    let mut stream = first;
+    let mut cell: u64 = 0;
+    while cell < 96 {
+        stream = put_cell(stream, output, place_at(cell / 12), kind_at(cell % 12));
+        cell += 1;
     }
+    stream
 }
 
-fn write_cell(place: Place, kind: Kind) {
-    write_place(place);
-    write_kind(kind);
-    io::write_all(1, b" ");
-    write_action(table::action_at(place, kind));
-    io::write_all(1, b"\n");
+fn put_heard(stream: Stream, output: &mut [u8], burst: &[u8; 3]) -> Stream {
+    let mut line = [0u8; 64];
+    let mut at = numbers::put_number(&mut line, 0, burst[0]);
+    at = fields::put_number(&mut line, at, burst[1]);
+    at = fields::put_number(&mut line, at, burst[2]);
+    at = put_kind(
+        &mut line,
+        at,
+        table::kind_of(Words(burst[0], burst[1], burst[2])),
+    );
+    at = numbers::put(&mut line, at, 10);
+    stream.put_line(output, &line, at)
 }
 
-// The cells of a place. What it holds does not choose its row.
-fn write_row(place: Place) {
-    write_cell(place, Kind::Cs1Block);
-    write_cell(place, Kind::Cs1);
-    write_cell(place, Kind::Cs2Block);
-    write_cell(place, Kind::Cs2);
-    write_cell(place, Kind::Cs3Block);
-    write_cell(place, Kind::Cs3);
-    write_cell(place, Kind::Rqs);
-    write_cell(place, Kind::Rq);
-    write_cell(place, Kind::Block);
-    write_cell(place, Kind::Turn);
-    write_cell(place, Kind::Alphas);
-    write_cell(place, Kind::Else);
-}
-
-fn write_table() {
-    write_row(Place::Sending(Held {
-        number: Number::One,
-        block: mode_a::SILENCE,
-    }));
-    write_row(Place::Turning(Number::One));
-    write_row(Place::Opening);
-    write_row(Place::Ending(Ended {
-        number: Number::One,
-        total: 1,
-    }));
-    write_row(Place::Receiving(Number::One));
-    write_row(Place::Asking);
-    write_row(Place::StandBy);
-    write_row(Place::Lost);
-}
-
-fn write_heard(burst: Words) {
-    io::print_decimal(1, burst.0 as u64);
-    io::write_all(1, b" ");
-    io::print_decimal(1, burst.1 as u64);
-    io::write_all(1, b" ");
-    io::print_decimal(1, burst.2 as u64);
-    io::write_all(1, b" ");
-    write_kind(table::kind_of(burst));
-    io::write_all(1, b"\n");
-}
-
-fn answer(burst: &[u8; 3]) {
-    write_heard(Words(burst[0], burst[1], burst[2]));
+// The next burst read, and its kind. A short last one is ignored.
+fn turn(stream: Stream, input: &mut [u8], output: &mut [u8]) -> Stream {
+    let mut burst = [0u8; 3];
+    let read = stream.record(input, output, &mut burst);
+    let after = read.stream;
+    if read.count != 3 {
+        return after;
+    }
+    put_heard(after, output, &burst)
 }
 
 fn main() {
-    write_table();
+    if filters::has_words(b"rows") {
+        return;
+    }
+    let mut input = [0u8; 4096];
+    let mut output = [0u8; 4096];
+    let mut stream = put_table(Stream::new(), &mut output);
     let mut turns = u64::MAX;
     while turns > 0 {
-        let mut burst = [0u8; 3];
-        let got = io::read_full(0, &mut burst);
-        if got != 3 {
+        if stream.over {
+            stream.finish(&output, b"rows");
             return;
         }
-        answer(&burst);
+        stream = turn(stream, &mut input, &mut output);
         turns -= 1;
     }
 }

@@ -1,55 +1,73 @@
 // Writes the word of every slot of mode B for the text's signals that standard input lists as numbers (docs/FORMATS.md).
+use filters::Stream;
 use mode_b::Slot;
 
-// How writing goes on: the column of the next word, and whether there is one.
-pub struct Written {
-    pub column: usize,
-    pub done: bool,
+// How it goes on, and whether there is no further slot.
+pub struct Put {
+    pub stream: Stream,
+    pub last: bool,
 }
 
-// Writes one slot.
-fn write_slot(text: &[u8], number: usize, column: usize) -> Written {
+// A slot's word put. A refusal comes at the first slot.
+fn put_slot(stream: Stream, output: &mut [u8], text: &[u8], number: usize) -> Put {
     let slot = sending::slot(text, number);
     match slot {
-        Slot::Word(word) => Written {
-            column: filters::write_word(column, word),
-            done: false,
+        Slot::Word(word) => Put {
+            stream: stream.put_word(output, word),
+            last: false,
         },
         Slot::TooLong => {
-            filters::tell_refusal(7, 8192);
-            Written { column, done: true }
+            filters::tell_refusal(b"send", 7, 8192, b"over ", b" signals");
+            Put { stream, last: true }
         }
         Slot::BadWord(index) => {
-            filters::tell_refusal(3, index as u64);
-            Written { column, done: true }
+            filters::tell_refusal(
+                b"send",
+                3,
+                index as u64,
+                b"the word at index ",
+                b" is not traffic",
+            );
+            Put { stream, last: true }
         }
-        Slot::PastLast(_) => Written { column, done: true },
+        Slot::PastLast(_) => Put { stream, last: true },
     }
 }
 
-// Writes every slot, up to a number that no sending reaches.
-fn write_slots(text: &[u8]) {
-    let mut column = 0;
+// Every slot's word put, up to a number that no sending reaches.
+fn put_slots(first: Stream, output: &mut [u8], text: &[u8]) -> Stream {
+    let mut stream = first;
     let mut number = 0;
     while number < 65536 {
-        let written = write_slot(text, number, column);
-        column = written.column;
-        if written.done {
-            filters::end_line(column);
-            return;
+        let put = put_slot(stream, output, text, number);
+        stream = put.stream;
+        if put.last {
+            return stream;
         }
         number += 1;
     }
+    stream
 }
 
 fn main() {
-    // one signal over the limit is enough to refuse
-    let mut words = [0u8; 8193];
-    let read = filters::read_words(&mut words);
-    if read.faulty {
-        filters::tell_place(b"not a number at ", read.place);
+    if filters::has_words(b"send") {
         return;
     }
+    let mut input = [0u8; 4096];
+    let mut output = [0u8; 4096];
+    // one signal over the limit is enough to refuse
+    let mut words = [0u8; 8193];
+    let read = Stream::new().numbers(&mut input, &output, &mut words);
     let count = read.count;
-    write_slots(&words[..count]);
+    let stream = read.stream;
+    let number = read.number;
+    if filters::tell_number(b"send", number) {
+        return;
+    }
+    if stream.failed(b"send") {
+        return;
+    }
+    put_slots(stream, &mut output, &words[..count])
+        .end_line(&mut output)
+        .finish(&output, b"send");
 }

@@ -1,57 +1,17 @@
--- `rows::main` is safe and ends: the measure is the turns that are left. Assumes nothing.
+-- `rows::main` is safe and ends: the measure is how many turns a u64 still counts. Assumes nothing.
+use mathlib.Core.Path.{_≡_}
+use lib.ListN.{length}
 use borrow.Author.Needs.{needs}
 use Rattle.rows.proofs.main.Statement.{statement}
 use Rattle.rows.proofs.main.Tie as tie
-
-abbrev Inv-loop : tie.InvT-loop
-Inv-loop turns₀ turns = Unit {0}
-
-abbrev μ-loop : tie.MeasureT-loop
-μ-loop turns₀ turns = turns
-
-write-table-requires : tie.Need-write-table-requires Inv-loop μ-loop
-write-table-requires c κs = search needs
-
-loop-holds : tie.Need-loop-holds Inv-loop μ-loop
-loop-holds c = search needs
-
-slice-aggregate-read-full : tie.Need-slice-aggregate-read-full Inv-loop μ-loop
-slice-aggregate-read-full c = search needs
-
-read-full-requires : tie.Need-read-full-requires Inv-loop μ-loop
-read-full-requires c κs = search needs
-
-returns : tie.Need-returns Inv-loop μ-loop
-returns c = search needs
-
-answer-requires : tie.Need-answer-requires Inv-loop μ-loop
-answer-requires c κs = search needs
-
-sub-turns : tie.Need-sub-turns Inv-loop μ-loop
-sub-turns c = search needs
-
-loop-less : tie.Need-loop-less Inv-loop μ-loop
-loop-less c = search needs
-
-loop-again : tie.Need-loop-again Inv-loop μ-loop
-loop-again c = search needs
-
-returns-2 : tie.Need-returns-2 Inv-loop μ-loop
-returns-2 c = search needs
 
 pub main-spec : {M : Type 1} → statement M
 main-spec =
     tie.close
     (tie.spec
-    Inv-loop
-    μ-loop
-    write-table-requires
-    loop-holds
-    slice-aggregate-read-full
-    read-full-requires
-    returns
-    answer-requires
-    sub-turns
-    loop-less
-    loop-again
-    returns-2)
+    (λ input₀ output₀ stream₀ turns₀ t input output stream turns. (length input ≡ 4096) × (length output ≡ 4096))
+    (λ input₀ output₀ stream₀ turns₀ t input output stream turns. turns)
+    (search needs) (search needs) (search needs) (search needs) (search needs)
+    (search needs) (search needs) (search needs) (search needs) (search needs)
+    (search needs) (search needs) (search needs) (search needs) (search needs)
+    (search needs) (search needs) (search needs))
