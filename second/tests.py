@@ -947,7 +947,7 @@ def compare_counts_inputs():
         empty = [inputs.quickly("empty", b"")] * least["inputs"]
         assert len(compare.shortages(name, empty)) == len(least) - 1
     # Without the inputs of one kind of `calls`.
-    all_cases = inputs.cases("calls", inputs.GATE_SEED)
+    all_cases = gate_cases("calls")
     assert compare.shortages("calls", all_cases) == []
     for kind in inputs.KINDS:
         without = [case._replace(data=b"".join(
@@ -1020,8 +1020,8 @@ def inputs_tell_each_line():
     for name, wanted in reasons.items():
         found = {}
         for case in gate_cases(name):
-            if (name in ("hear", "steps") or len(case.data) > 100000) and not case.words:
-                # The long ones of `calls` are records without a fault.
+            if (name in ("hear", "steps") or len(case.data) > 30000) and not case.words:
+                # Long ones tell nothing that short ones do not.
                 continue
             error = programs.run(name, case.words, case.data).error.decode()
             told = error.strip().split(": ")[-1]
