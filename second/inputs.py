@@ -343,7 +343,7 @@ def print_cases(draw):
 # The breaks that `send` itself is tried at, on both sides of each.  Where a
 # proved program reads the whole text for each slot, all slots of a long text
 # cost the square of its length; `calls` tries single slots at all 85 breaks.
-SEND_BREAKS = list(range(1, 11)) + list(range(15, 86, 5))
+SEND_BREAKS = list(range(1, 6)) + [10, 20, 30, 40, 50, 60, 70, 80, 85]
 ALL_BREAKS = list(range(1, 86))
 
 
@@ -691,12 +691,12 @@ def hear_cases(draw):
     circuit = joined(led_circuit(draw, 4000))
     for size in (BLOCK - 1, BLOCK, BLOCK + 1, 2 * BLOCK, 2 * BLOCK + 1):
         out.append(from_file("%d bytes heard" % size, circuit[:size]))
-    for length in range(1, 12):
+    for length in (1, 2, 3, 4, 5, 11):
         out.append(quickly("first %d bytes of 01's example" % length,
                            example[:length]))
         out.append(quickly("%d traffic signals" % length,
                            bytes(draw.choices(TRAFFIC, k=length))))
-    for _ in range(10):
+    for _ in range(5):
         out.append(quickly("random bytes",
                            bytes(draw.choices(WORDS, k=draw.randint(90, 200)))))
         out.append(quickly("random intact words",
@@ -1248,7 +1248,7 @@ KINDS = b"EPSMR"
 def hostile_tails(draw):
     """What ends the program: bad kinds, rooms, lengths, and cut records."""
     kinds = [byte for byte in WORDS if byte not in KINDS]
-    for byte in draw.sample(kinds, 12) + list(KINDS.lower()):
+    for byte in draw.sample(kinds, 6) + list(KINDS.lower()):
         yield "kind %d" % byte, bytes([byte]) + text_record(b"E", 0, 9, b"AB")
     heads = [b"E", b"P"]
     for head in heads:
@@ -1273,8 +1273,7 @@ def hostile_tails(draw):
         whole = b"S" + low_first(5, 4) + low_first(length, 2)
         yield "length %d" % length, whole + bytes([71]) * length
     for whole in (slot_record(5, [71] * 4), b"M" + bytes([71]),
-                  receive_record(draw, run=3, last=1, word=ALPHA),
-                  receive_record(draw, printing=1, word=71)):
+                  receive_record(draw, run=3, last=1, word=ALPHA)):
         for length in range(1, len(whole)):
             yield "record cut to %d" % length, whole[:length]
 

@@ -947,7 +947,7 @@ def compare_counts_inputs():
         empty = [inputs.quickly("empty", b"")] * least["inputs"]
         assert len(compare.shortages(name, empty)) == len(least) - 1
     # Without the inputs of one kind of `calls`.
-    all_cases = inputs.cases("calls", inputs.GATE_SEED)
+    all_cases = gate_cases("calls")
     assert compare.shortages("calls", all_cases) == []
     for kind in inputs.KINDS:
         without = [case._replace(data=b"".join(
@@ -956,6 +956,55 @@ def compare_counts_inputs():
             if case.data[first] != kind)) for case in all_cases]
         told = compare.shortages("calls", without)
         assert len(told) == 1 and "TOO FEW %s" % chr(kind) in told[0]
+
+
+# A stand-in for a proved `hear`: it answers each burst as it comes.
+ANSWERING = """
+import os, sys
+sys.path.insert(0, sys.argv[1])
+import programs
+data, done, more = b"", 0, b"x"
+while more:
+    more = os.read(0, 4096)
+    data += more
+    output = programs.hear(data[:len(data) // 3 * 3] if more else data)[0]
+    os.write(1, output[done:])
+    done = len(output)
+"""
+
+
+def compare_tells_who_does_not_answer():
+    def stand_in(*command):
+        def started(name, words, standard_input, standard_output=subprocess.PIPE):
+            return subprocess.Popen(
+                [*command, name], stdin=standard_input, stdout=standard_output,
+                stderr=subprocess.PIPE, bufsize=0, start_new_session=True)
+        return started
+
+    kept = compare.started, compare.ANSWER_LIMIT
+    try:
+        compare.started = stand_in(sys.executable, "-B", "-c", ANSWERING,
+                                   os.path.dirname(SCRIPT))
+        talk = inputs.CONVERSATIONS["hear"][0]
+        assert compare.converse("hear", talk) is None
+        # It answers `hear`, whatever it is asked.
+        assert "came for" in compare.converse("steps", inputs.CONVERSATIONS["steps"][0])
+        # The second program answers when its input has ended.
+        compare.ANSWER_LIMIT = 0.3
+        compare.started = stand_in(SCRIPT)
+        for name in ("hear", "receive"):
+            told = compare.converse(name, inputs.CONVERSATIONS[name][0])
+            assert "has not come" in told
+        assert compare.converse("print", inputs.CONVERSATIONS["print"][0]) == (
+            "it has not ended")
+        # What is handed words may not read.
+        usage = inputs.with_words(b"71")[0]
+        compare.started = stand_in("sh", "-c", "cat > /dev/null")
+        assert compare.run_proved("print", usage).trouble == "has read its input"
+        compare.started = stand_in("sh", "-c", "exit 2")
+        assert compare.run_proved("print", usage) == (b"", b"", 2, None)
+    finally:
+        compare.started, compare.ANSWER_LIMIT = kept
 
 
 # --- The inputs: that they hold what they are there for ---
@@ -1020,8 +1069,8 @@ def inputs_tell_each_line():
     for name, wanted in reasons.items():
         found = {}
         for case in gate_cases(name):
-            if (name in ("hear", "steps") or len(case.data) > 100000) and not case.words:
-                # The long ones of `calls` are records without a fault.
+            if (name in ("hear", "steps") or len(case.data) > 30000) and not case.words:
+                # Long ones tell nothing that short ones do not.
                 continue
             error = programs.run(name, case.words, case.data).error.decode()
             told = error.strip().split(": ")[-1]
@@ -1156,6 +1205,7 @@ TESTS = [
     calls_records, meaning_records, receive_records, receive_records_run_on,
     receive_records_cut,
     compare_names_all_programs, compare_counts_inputs,
+    compare_tells_who_does_not_answer,
     inputs_are_bytes, inputs_at_borders, inputs_tell_each_line,
     inputs_of_steps, inputs_of_receive, conversations_are_answered,
     faults_not_told_are_found, faults_of_all_programs,
