@@ -289,6 +289,11 @@ fn answer(
     }
 }
 
+// The bytes of a record, its kind and its list with it.
+fn bytes_in(kind: u8, head: &[u8; 10]) -> usize {
+    1 + head_length(kind) + length_in(kind, head)
+}
+
 // Reads the list and answers. `list` and `room` are as long as a record may ask.
 fn listed(
     stream: Stream,
@@ -314,9 +319,31 @@ fn listed(
     }
     Came {
         stream: answer(after, output, kind, head, &list[..count], room),
-        bytes: 1 + head_length(kind) + length,
+        bytes: bytes_in(kind, head),
         end: End::Over,
     }
+}
+
+// Reads what stands before the list, and goes on.
+fn headed(
+    stream: Stream,
+    input: &mut [u8],
+    output: &mut [u8],
+    kind: u8,
+    list: &mut [u8],
+    room: &mut [u8],
+) -> Came {
+    let needed = head_length(kind);
+    if needed == 0 {
+        return none(stream, End::NoKind);
+    }
+    let mut head = [0u8; 10];
+    let read = stream.read_first(input, output, &mut head, needed);
+    let after = read.stream;
+    if read.count != needed {
+        return none(after, End::CutShort);
+    }
+    listed(after, input, output, kind, &head, list, room)
 }
 
 fn record(
@@ -328,21 +355,10 @@ fn record(
 ) -> Came {
     let first = stream.byte(input, output);
     let begun = first.stream;
-    let kind = first.byte;
-    let needed = head_length(kind);
-    if !first.more {
-        return none(begun, End::Over);
+    if first.more {
+        return headed(begun, input, output, first.byte, list, room);
     }
-    if needed == 0 {
-        return none(begun, End::NoKind);
-    }
-    let mut head = [0u8; 10];
-    let read = begun.read_first(input, output, &mut head, needed);
-    let after = read.stream;
-    if read.count != needed {
-        return none(after, End::CutShort);
-    }
-    listed(after, input, output, kind, &head, list, room)
+    none(begun, End::Over)
 }
 
 // Writes what waits, and tells why there is no record at the place. Where reading or writing has failed, that is told instead.

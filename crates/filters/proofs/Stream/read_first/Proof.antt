@@ -14,7 +14,7 @@ read-first-spec =
     (tie.spec
     (λ input₀ output room₀ most stream₀ count₀ input room stream count. (length input ≡ length input₀) × (length room ≡ length room₀) × (count ≤ length room₀))
     (λ input₀ output room₀ most stream₀ count₀ input room stream count. length room₀ - count)
-    (search needs)
+    (search needs) (search needs) (search needs)
     (λ c. (search needs, sym (length-take-le _ _ (search needs))))
     (search needs) (search needs) (search needs)
     (λ c. (search needs, sym (length-take-le _ _ (search needs))))
