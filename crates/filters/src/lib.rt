@@ -126,10 +126,13 @@ impl Stream {
         }
     }
 
-    // Writes what waits.
+    // Writes what waits. In a room that is too short for a word it fails, so that no byte is lost untold.
     pub fn flush(self, output: &[u8]) -> Self {
         let column = self.column;
         if self.unwritten {
+            return self.with_output(0, column, true);
+        }
+        if output.len() < numbers::LONGEST {
             return self.with_output(0, column, true);
         }
         let written = write_first(1, output, self.waiting);
@@ -342,7 +345,7 @@ impl Stream {
         }
     }
 
-    // Room for so many bytes more: where there is less, what waits is written.
+    // Room for so many bytes more, LONGEST at most: where there is less, what waits is written.
     fn with_room(self, output: &[u8], bytes: usize) -> Self {
         if has_room(output, self.waiting, bytes) {
             return self;
@@ -358,34 +361,29 @@ impl Stream {
         stream.with_output(at, column, unwritten)
     }
 
+    // The bytes, at once where there is room for them.
     pub fn put_all(self, output: &mut [u8], bytes: &[u8]) -> Self {
-        self.put_first(output, bytes, bytes.len())
-    }
-
-    // The first `count` of the bytes.
-    pub fn put_first(self, output: &mut [u8], bytes: &[u8], count: usize) -> Self {
+        if has_room(output, self.waiting, bytes.len()) {
+            let column = self.column;
+            let unwritten = self.unwritten;
+            let at = numbers::put_all(output, self.waiting, bytes);
+            return self.with_output(at, column, unwritten);
+        }
         let mut stream = self;
         let mut i = 0;
         while i < bytes.len() {
-            if count <= i {
-                return stream;
-            }
             stream = stream.put(output, bytes[i]);
             i += 1;
         }
         stream
     }
 
-    // The first `count` bytes of a line, which is shorter than the output room.
+    // The first `count` of the bytes.
     pub fn put_line(self, output: &mut [u8], line: &[u8], count: usize) -> Self {
         if line.len() < count {
-            return self;
+            return self.put_all(output, line);
         }
-        let stream = self.with_room(output, count);
-        let column = stream.column;
-        let unwritten = stream.unwritten;
-        let at = numbers::put_all(output, stream.waiting, &line[..count]);
-        stream.with_output(at, column, unwritten)
+        self.put_all(output, &line[..count])
     }
 
     // A word as it is written, sixteen to a line.
@@ -470,14 +468,18 @@ impl Stream {
         false
     }
 
-    // Writes what waits, and tells where a read or a write has failed.
-    pub fn finish(self, output: &[u8], name: &[u8]) {
+    // Writes what waits; answers whether all was read and written, and tells what has failed.
+    pub fn finished(self, output: &[u8], name: &[u8]) -> bool {
         let stream = self.flush(output);
         if stream.unwritten {
             tell(name, b"cannot write standard output");
-            return;
+            return false;
         }
-        stream.failed(name);
+        !stream.failed(name)
+    }
+
+    pub fn finish(self, output: &[u8], name: &[u8]) {
+        self.finished(output, name);
     }
 }
 

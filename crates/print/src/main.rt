@@ -8,7 +8,7 @@ fn tell(stream: Stream, output: &mut [u8], answer: Printed, room: &[u8]) {
     match answer {
         Printed::Written { count, ends: _ } => {
             stream
-                .put_first(output, room, count)
+                .put_line(output, room, count)
                 .finish(output, b"print");
         }
         Printed::TooLong => filters::tell_refusal(b"print", 7, 8192, b"over ", b" signals"),

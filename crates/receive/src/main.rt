@@ -13,9 +13,9 @@ fn print(stream: Stream, output: &mut [u8], printed: u8) -> Stream {
 
 // The line ended and written, and what is wrong told.
 fn stop(stream: Stream, output: &mut [u8], number: Number) {
-    let ended = stream.end_line(output).flush(output);
-    filters::tell_number(b"receive", number);
-    ended.finish(output, b"receive");
+    if stream.end_line(output).finished(output, b"receive") {
+        filters::tell_number(b"receive", number);
+    }
 }
 
 fn main() {

@@ -9,6 +9,6 @@ pub put-line-spec : {M : Type 1} → statement M
 put-line-spec =
     tie.close
     (tie.spec
-    (search needs) (search needs)
+    (search needs) (search needs) (search needs)
     (λ c. sym (length-take-le _ _ (search needs)))
-    (search needs) (search needs) (search needs) (search needs))
+    (search needs) (search needs) (search needs))
