@@ -16,6 +16,7 @@ use signals::Case;
 use text::Encoded;
 use text::Printed;
 ghost use Prim.Native.Nat.{_<_};
+ghost use Rattle.io.specs.Counts.{Counts};
 
 // Every character that has a signal, and every traffic signal, both ascending.
 const ALPHABET: [u8; 52] = [
@@ -179,7 +180,7 @@ fn asked_in(bytes: &[u8]) -> Asked {
 
 // What a room is filled with: any bytes, characters, traffic signals with an error mark once in a while, traffic signals alone,
 // or the plan of 4,096 steps.
-pub enum Made {
+pub enum Filling {
     Bytes,
     Characters,
     Words,
@@ -205,26 +206,36 @@ fn word_drawn(g: u64) -> u8 {
     255
 }
 
-fn made(what: Made, g: u64, j: usize) -> u8 {
-    match what {
-        Made::Bytes => (drawn(g, 256) % 256) as u8,
-        Made::Characters => ALPHABET[drawn(g, 52) % 52],
-        Made::Words => word_drawn(g),
-        Made::Traffic => TRAFFIC[drawn(g, 32) % 32],
-        Made::Plan => planned(g, j),
+fn made(filling: Filling, g: u64, j: usize) -> u8 {
+    match filling {
+        Filling::Bytes => (drawn(g, 256) % 256) as u8,
+        Filling::Characters => ALPHABET[drawn(g, 52) % 52],
+        Filling::Words => word_drawn(g),
+        Filling::Traffic => TRAFFIC[drawn(g, 32) % 32],
+        Filling::Plan => planned(g, j),
     }
 }
 
 // Fills the room, and answers the last number drawn.
-fn fill(room: &mut [u8], what: Made) -> u64 {
+fn fill(room: &mut [u8], filling: Filling) -> u64 {
     let mut g: u64 = 625;
     let mut j = 0;
     while j < room.len() {
         g = next(g);
-        numbers::put(room, j, made(what, g, j));
+        numbers::put(room, j, made(filling, g, j));
         j += 1;
     }
     g
+}
+
+// The length, as far as the bytes go.
+fn first(bytes: &[u8], length: usize) -> usize
+    ensures { λ r. ⌜ Counts r (now (bytes .entry)) ⌝ }
+{
+    if length < bytes.len() {
+        return length;
+    }
+    bytes.len()
 }
 
 // --- meaning ---
@@ -241,7 +252,7 @@ fn meaning_often(times: u64, input: &[u8; 4096]) -> u64 {
 
 fn run_meaning(times: u64) -> u64 {
     let mut input = [0u8; 4096];
-    fill(&mut input, Made::Bytes);
+    fill(&mut input, Filling::Bytes);
     meaning_often(times, &input)
 }
 
@@ -319,11 +330,9 @@ fn encode_refused() -> u64 {
 fn run_encode(times: u64, length: usize) -> u64 {
     let mut text = [0u8; 8192];
     let mut room = [0u8; 8192];
-    fill(&mut text, Made::Characters);
-    if 8192 < length {
-        return 0;
-    }
-    encode_often(times, &text[..length], &mut room, encode_refused())
+    fill(&mut text, Filling::Characters);
+    let count = first(&text, length);
+    encode_often(times, &text[..count], &mut room, encode_refused())
 }
 
 fn print_often(times: u64, words: &[u8], room: &mut [u8], from: u64) -> u64 {
@@ -350,11 +359,9 @@ fn print_refused() -> u64 {
 fn run_print(times: u64, length: usize) -> u64 {
     let mut words = [0u8; 8192];
     let mut room = [0u8; 8192];
-    fill(&mut words, Made::Words);
-    if 8192 < length {
-        return 0;
-    }
-    print_often(times, &words[..length], &mut room, print_refused())
+    fill(&mut words, Filling::Words);
+    let count = first(&words, length);
+    print_often(times, &words[..count], &mut room, print_refused())
 }
 
 // --- step ---
@@ -461,7 +468,7 @@ fn step_often(times: u64, steps: &[u8], from: u64) -> u64 {
 
 fn run_step(times: u64) -> u64 {
     let mut steps = [0u8; 20480];
-    fill(&mut steps, Made::Plan);
+    fill(&mut steps, Filling::Plan);
     let unsound = Station {
         role: Role::Master,
         place: Place::Opening,
@@ -529,11 +536,9 @@ fn slot_often(times: u64, text: &[u8]) -> u64 {
 
 fn run_slot(times: u64, length: usize) -> u64 {
     let mut text = [0u8; 8192];
-    fill(&mut text, Made::Traffic);
-    if 8192 < length {
-        return 0;
-    }
-    slot_often(times, &text[..length])
+    fill(&mut text, Filling::Traffic);
+    let count = first(&text, length);
+    slot_often(times, &text[..count])
 }
 
 // --- receive ---
@@ -615,13 +620,10 @@ fn receive_often(times: u64, stream: &[u8]) -> u64 {
 
 fn run_receive(times: u64) -> u64 {
     let mut text = [0u8; 40];
-    let g = fill(&mut text, Made::Traffic);
-    let slots = slots_of(&text);
+    let g = fill(&mut text, Filling::Traffic);
     let mut stream = [0u8; 256];
     broadcast(&mut stream, &text, g);
-    if 256 < slots {
-        return 0;
-    }
+    let slots = first(&stream, slots_of(&text));
     receive_often(times, &stream[..slots])
 }
 
@@ -647,7 +649,8 @@ fn main() {
         return;
     }
     let asked = asked_in(&line[..count]);
-    match asked.call {
+    let call = asked.call;
+    match call {
         1 => answer(stream, &mut output, b"meaning ", run_meaning(asked.times)),
         2 => answer(
             stream,

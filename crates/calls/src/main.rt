@@ -11,10 +11,10 @@ use signals::Case;
 use text::Encoded;
 use text::Printed;
 ghost use Prim.Native.Nat.{_<_};
+ghost use Rattle.io.specs.Counts.{Counts};
 
-// How a record came out: it was answered and had so many bytes, the input ended before it, or it is none, and why.
-pub enum Outcome {
-    Answered(u64),
+// Why there is no further record: the input is over, or what stands there is none.
+pub enum End {
     Over,
     NoKind,
     CutShort,
@@ -22,19 +22,19 @@ pub enum Outcome {
     Length,
 }
 
-pub struct Ended {
+// How a record came out: the bytes that it had where it was answered, else 0 and why.
+pub struct Came {
     pub stream: Stream,
-    pub outcome: Outcome,
+    pub bytes: usize,
+    pub end: End,
 }
 
-// The place of the next record, and whether there is none.
-pub struct Next {
-    pub place: u64,
-    pub done: bool,
-}
-
-fn ended(stream: Stream, outcome: Outcome) -> Ended {
-    Ended { stream, outcome }
+fn none(stream: Stream, end: End) -> Came {
+    Came {
+        stream,
+        bytes: 0,
+        end,
+    }
 }
 
 fn wide(byte: u8) -> usize
@@ -84,22 +84,22 @@ fn put_printed(stream: Stream, output: &mut [u8], answer: Printed) -> Stream {
     }
 }
 
-fn fill(room: &mut [u8]) {
+// Fills the first `size` bytes of the room; answers how many there are.
+fn fill(room: &mut [u8], size: usize) -> usize
+    ensures { λ r. ⌜ Counts r (now (room .exit)) ⌝ }
+{
     let mut i = 0;
     while i < room.len() {
+        if i == size {
+            return i;
+        }
         room[i] = 170;
         i += 1;
     }
+    i
 }
 
-fn past(place: u64, bytes: u64) -> u64 {
-    if u64::MAX - place < bytes {
-        return u64::MAX;
-    }
-    place + bytes
-}
-
-// Fills the room, makes the call, and puts what it gives.
+// A call of kind E or P.
 fn call(
     stream: Stream,
     output: &mut [u8],
@@ -108,73 +108,12 @@ fn call(
     list: &[u8],
     room: &mut [u8],
 ) -> Stream {
-    fill(room);
     if kind == b'E' {
         let answer = encoding::encode(list, case, room);
         return put_room(put_encoded(stream, output, answer), output, room);
     }
     let answer = printing::print(list, case, room);
     put_room(put_printed(stream, output, answer), output, room)
-}
-
-// Reads the list and makes the call.
-fn answer(
-    stream: Stream,
-    input: &mut [u8],
-    output: &mut [u8],
-    kind: u8,
-    case: Case,
-    list: &mut [u8],
-    room: &mut [u8],
-) -> Ended {
-    let read = stream.record(input, output, list);
-    let after = read.stream;
-    if read.count != list.len() {
-        return ended(after, Outcome::CutShort);
-    }
-    Ended {
-        stream: call(after, output, kind, case, list, room),
-        outcome: Outcome::Answered(past(6, list.len() as u64)),
-    }
-}
-
-// The rest of a record of kind E or P: case, room, length, and the list. `list` and `room` are as long as a record may ask.
-fn with_room(
-    stream: Stream,
-    input: &mut [u8],
-    output: &mut [u8],
-    kind: u8,
-    list: &mut [u8],
-    room: &mut [u8],
-) -> Ended {
-    let mut head = [0u8; 5];
-    let read = stream.record(input, output, &mut head);
-    let after = read.stream;
-    if read.count != 5 {
-        return ended(after, Outcome::CutShort);
-    }
-    let case = fields::case_of(head[0]);
-    let size = two_bytes(head[1], head[2]);
-    let length = two_bytes(head[3], head[4]);
-    if room.len() < size {
-        return ended(after, Outcome::Room);
-    }
-    if list.len() < length {
-        return ended(after, Outcome::Length);
-    }
-    answer(
-        after,
-        input,
-        output,
-        kind,
-        case,
-        &mut list[..length],
-        &mut room[..size],
-    )
-}
-
-fn four_bytes(head: &[u8; 6]) -> usize {
-    two_bytes(head[2], head[3]) * 65536 + two_bytes(head[0], head[1])
 }
 
 fn put_slot(stream: Stream, output: &mut [u8], slot: Slot) -> Stream {
@@ -188,57 +127,17 @@ fn put_slot(stream: Stream, output: &mut [u8], slot: Slot) -> Stream {
     }
 }
 
-// Reads the text and asks for the slot.
-fn answer_slot(
-    stream: Stream,
-    input: &mut [u8],
-    output: &mut [u8],
-    text: &mut [u8],
-    number: usize,
-) -> Ended {
-    let read = stream.record(input, output, text);
-    let after = read.stream;
-    if read.count != text.len() {
-        return ended(after, Outcome::CutShort);
-    }
-    Ended {
-        stream: put_slot(after, output, sending::slot(text, number)).put(output, 10),
-        outcome: Outcome::Answered(past(7, text.len() as u64)),
-    }
+fn four_bytes(head: &[u8; 10]) -> usize {
+    two_bytes(head[2], head[3]) * 65536 + two_bytes(head[0], head[1])
 }
 
-// The rest of a record of kind S: slot number, length, and the text.
-fn with_slot(stream: Stream, input: &mut [u8], output: &mut [u8], list: &mut [u8]) -> Ended {
-    let mut head = [0u8; 6];
-    let read = stream.record(input, output, &mut head);
-    let after = read.stream;
-    if read.count != 6 {
-        return ended(after, Outcome::CutShort);
-    }
-    let number = four_bytes(&head);
-    let length = two_bytes(head[4], head[5]);
-    if list.len() < length {
-        return ended(after, Outcome::Length);
-    }
-    answer_slot(after, input, output, &mut list[..length], number)
-}
-
-// The rest of a record of kind M: the byte.
-fn with_byte(stream: Stream, input: &mut [u8], output: &mut [u8]) -> Ended {
-    let mut byte = [0u8; 1];
-    let read = stream.record(input, output, &mut byte);
-    let after = read.stream;
-    if read.count != 1 {
-        return ended(after, Outcome::CutShort);
-    }
+// A call of kind M.
+fn put_meaning(stream: Stream, output: &mut [u8], byte: u8) -> Stream {
     let mut line = [0u8; 16];
-    let mut at = numbers::put_number(&mut line, 0, signals::meaning(byte[0]));
-    at = fields::put_flag(&mut line, at, signals::intact(byte[0]));
+    let mut at = numbers::put_number(&mut line, 0, signals::meaning(byte));
+    at = fields::put_flag(&mut line, at, signals::intact(byte));
     at = numbers::put(&mut line, at, 10);
-    Ended {
-        stream: after.put_line(output, &line, at),
-        outcome: Outcome::Answered(2),
-    }
+    stream.put_line(output, &line, at)
 }
 
 fn phasing_of(byte: u8) -> Phasing {
@@ -248,20 +147,20 @@ fn phasing_of(byte: u8) -> Phasing {
     Phasing::Two
 }
 
-// The receiver of a record of kind R. The kind is read already: byte 1 stands at 0.
-fn receiver_of(record: &[u8; 10]) -> Receiver {
-    if record[0] % 2 == 0 {
+// The receiver of a record of kind R. The kind does not stand in the head: byte 1 of the record stands at 0.
+fn receiver_of(head: &[u8; 10]) -> Receiver {
+    if head[0] % 2 == 0 {
         return Receiver {
-            hearing: Hearing::Searching(record[1], phasing_of(record[2])),
+            hearing: Hearing::Searching(head[1], phasing_of(head[2])),
         };
     }
     Receiver {
         hearing: Hearing::InPhase(Phase {
-            first: record[3],
-            second: record[4],
-            third: record[5],
-            dx: record[6] % 2 == 0,
-            printing: record[7] % 2 == 1,
+            first: head[3],
+            second: head[4],
+            third: head[5],
+            dx: head[6] % 2 == 0,
+            printing: head[7] % 2 == 1,
         }),
     }
 }
@@ -323,25 +222,128 @@ fn put_heard(stream: Stream, output: &mut [u8], heard: Heard) -> Stream {
     stream.put_line(output, &line, at)
 }
 
-// The rest of a record of kind R: the receiver, and the word that it hears.
-fn with_receiver(stream: Stream, input: &mut [u8], output: &mut [u8]) -> Ended {
-    let mut record = [0u8; 10];
-    let read = stream.record(input, output, &mut record);
-    let after = read.stream;
-    if read.count != 10 {
-        return ended(after, Outcome::CutShort);
-    }
-    let received = receiving::receive(receiver_of(&record), record[9]);
+// A call of kind R.
+fn put_received(stream: Stream, output: &mut [u8], head: &[u8; 10]) -> Stream {
+    let received = receiving::receive(receiver_of(head), head[9]);
     match received {
-        Received::Done(heard) => Ended {
-            stream: put_heard(after, output, heard),
-            outcome: Outcome::Answered(11),
-        },
-        Received::BadReceiver(_) => Ended {
-            stream: after.put_all(output, b"refused 4 0\n"),
-            outcome: Outcome::Answered(11),
-        },
+        Received::Done(heard) => put_heard(stream, output, heard),
+        Received::BadReceiver(_) => stream.put_all(output, b"refused 4 0\n"),
     }
+}
+
+// The bytes between a record's kind and its list; 0 where there is no such kind.
+fn head_length(kind: u8) -> usize
+    ensures { λ r. ⌜ r < 11 ⌝ }
+{
+    match kind {
+        b'E' | b'P' => 5,
+        b'S' => 6,
+        b'M' => 1,
+        b'R' => 10,
+        _ => 0,
+    }
+}
+
+// The room that a record asks for.
+fn size_in(kind: u8, head: &[u8; 10]) -> usize {
+    match kind {
+        b'E' | b'P' => two_bytes(head[1], head[2]),
+        _ => 0,
+    }
+}
+
+// The length of a record's list.
+fn length_in(kind: u8, head: &[u8; 10]) -> usize
+    ensures { λ r. ⌜ r < 65536 ⌝ }
+{
+    match kind {
+        b'E' | b'P' => two_bytes(head[3], head[4]),
+        b'S' => two_bytes(head[4], head[5]),
+        _ => 0,
+    }
+}
+
+fn answer(
+    stream: Stream,
+    output: &mut [u8],
+    kind: u8,
+    head: &[u8; 10],
+    list: &[u8],
+    room: &mut [u8],
+) -> Stream {
+    match kind {
+        b'E' | b'P' => {
+            let filled = fill(room, size_in(kind, head));
+            call(
+                stream,
+                output,
+                kind,
+                fields::case_of(head[0]),
+                list,
+                &mut room[..filled],
+            )
+        }
+        b'S' => put_slot(stream, output, sending::slot(list, four_bytes(head))).put(output, 10),
+        b'M' => put_meaning(stream, output, head[0]),
+        _ => put_received(stream, output, head),
+    }
+}
+
+// The bytes of a record, its kind and its list with it.
+fn bytes_in(kind: u8, head: &[u8; 10]) -> usize {
+    1 + head_length(kind) + length_in(kind, head)
+}
+
+// Reads the list and answers. `list` and `room` are as long as a record may ask.
+fn listed(
+    stream: Stream,
+    input: &mut [u8],
+    output: &mut [u8],
+    kind: u8,
+    head: &[u8; 10],
+    list: &mut [u8],
+    room: &mut [u8],
+) -> Came {
+    let length = length_in(kind, head);
+    if room.len() < size_in(kind, head) {
+        return none(stream, End::Room);
+    }
+    if list.len() < length {
+        return none(stream, End::Length);
+    }
+    let read = stream.read_first(input, output, list, length);
+    let after = read.stream;
+    let count = read.count;
+    if count != length {
+        return none(after, End::CutShort);
+    }
+    Came {
+        stream: answer(after, output, kind, head, &list[..count], room),
+        bytes: bytes_in(kind, head),
+        end: End::Over,
+    }
+}
+
+// Reads what stands before the list, and goes on.
+fn headed(
+    stream: Stream,
+    input: &mut [u8],
+    output: &mut [u8],
+    kind: u8,
+    list: &mut [u8],
+    room: &mut [u8],
+) -> Came {
+    let needed = head_length(kind);
+    if needed == 0 {
+        return none(stream, End::NoKind);
+    }
+    let mut head = [0u8; 10];
+    let read = stream.read_first(input, output, &mut head, needed);
+    let after = read.stream;
+    if read.count != needed {
+        return none(after, End::CutShort);
+    }
+    listed(after, input, output, kind, &head, list, room)
 }
 
 fn record(
@@ -350,19 +352,13 @@ fn record(
     output: &mut [u8],
     list: &mut [u8],
     room: &mut [u8],
-) -> Ended {
-    let got = stream.byte(input, output);
-    let after = got.stream;
-    if !got.more {
-        return ended(after, Outcome::Over);
+) -> Came {
+    let first = stream.byte(input, output);
+    let begun = first.stream;
+    if first.more {
+        return headed(begun, input, output, first.byte, list, room);
     }
-    match got.byte {
-        b'E' | b'P' => with_room(after, input, output, got.byte, list, room),
-        b'S' => with_slot(after, input, output, list),
-        b'M' => with_byte(after, input, output),
-        b'R' => with_receiver(after, input, output),
-        _ => ended(after, Outcome::NoKind),
-    }
+    none(begun, End::Over)
 }
 
 // Writes what waits, and tells why there is no record at the place. Where reading or writing has failed, that is told instead.
@@ -379,24 +375,21 @@ fn tell(stream: Stream, output: &[u8], place: u64, why: &[u8]) {
     filters::tell_place(b"calls", b"bad record at ", place, why);
 }
 
-// The place behind the record that was answered; or the program ends.
-fn behind(ended: Ended, output: &[u8], place: u64) -> Next {
-    let stream = ended.stream;
-    let outcome = ended.outcome;
-    match outcome {
-        Outcome::Answered(bytes) => {
-            return Next {
-                place: past(place, bytes),
-                done: false,
-            };
-        }
-        Outcome::Over => stream.finish(output, b"calls"),
-        Outcome::NoKind => tell(stream, output, place, b"no such kind"),
-        Outcome::CutShort => tell(stream, output, place, b"cut short"),
-        Outcome::Room => tell(stream, output, place, b"a room over 8192"),
-        Outcome::Length => tell(stream, output, place, b"a length over 8193"),
+fn finish(stream: Stream, output: &[u8], place: u64, end: End) {
+    match end {
+        End::Over => stream.finish(output, b"calls"),
+        End::NoKind => tell(stream, output, place, b"no such kind"),
+        End::CutShort => tell(stream, output, place, b"cut short"),
+        End::Room => tell(stream, output, place, b"a room over 8192"),
+        End::Length => tell(stream, output, place, b"a length over 8193"),
     }
-    Next { place, done: true }
+}
+
+fn past(place: u64, bytes: usize) -> u64 {
+    if u64::MAX - place < bytes as u64 {
+        return u64::MAX;
+    }
+    place + bytes as u64
 }
 
 fn main() {
@@ -411,13 +404,14 @@ fn main() {
     let mut place: u64 = 0;
     let mut turns = u64::MAX;
     while turns > 0 {
-        let ended = record(stream, &mut input, &mut output, &mut list, &mut room);
-        let next = behind(ended, &output, place);
-        if next.done {
+        let came = record(stream, &mut input, &mut output, &mut list, &mut room);
+        let end = came.end;
+        stream = came.stream;
+        if came.bytes == 0 {
+            finish(stream, &output, place, end);
             return;
         }
-        stream = ended.stream;
-        place = next.place;
+        place = past(place, came.bytes);
         turns -= 1;
     }
 }

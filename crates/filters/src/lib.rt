@@ -186,9 +186,23 @@ impl Stream {
     pub fn record(self, input: &mut [u8], output: &[u8], room: &mut [u8]) -> Filled
         ensures { λ r. ⌜ Counts (r .count) (now (room .exit)) ⌝ }
     {
+        self.read_first(input, output, room, room.len())
+    }
+
+    // The same with at most so many bytes.
+    pub fn read_first(self, input: &mut [u8], output: &[u8], room: &mut [u8], most: usize) -> Filled
+        ensures { λ r. ⌜ Counts (r .count) (now (room .exit)) ⌝ }
+    {
         let mut stream = self;
         let mut count = 0;
         while count < room.len() {
+            if count == most {
+                return Filled {
+                    stream,
+                    count,
+                    number: Number::End,
+                };
+            }
             let got = stream.byte(input, output);
             stream = got.stream;
             if !got.more {

@@ -1,0 +1,24 @@
+-- `Stream::read_first` is safe and ends. Assumes nothing.
+use mathlib.Core.Path.{_≡_, sym}
+use Prim.Native.Nat.{_-_, _≤_}
+use native.Mathlib.Omega.{arith}
+use lib.ListN.{length, length-set}
+use lib.Seq.{length-take-le}
+use borrow.Author.Needs.{needs}
+use Rattle.filters.proofs.Stream.read_first.Statement.{statement}
+use Rattle.filters.proofs.Stream.read_first.Tie as tie
+
+pub read-first-spec : {M : Type 1} → statement M
+read-first-spec =
+    tie.close
+    (tie.spec
+    (λ input₀ output room₀ most stream₀ count₀ input room stream count. (length input ≡ length input₀) × (length room ≡ length room₀) × (count ≤ length room₀))
+    (λ input₀ output room₀ most stream₀ count₀ input room stream count. length room₀ - count)
+    (search needs) (search needs) (search needs)
+    (λ c. (search needs, sym (length-take-le _ _ (search needs))))
+    (search needs) (search needs) (search needs)
+    (λ c. (search needs, sym (length-take-le _ _ (search needs))))
+    (search needs) (search needs) (search needs)
+    (λ c. simp length-set (omega arith))
+    (search needs) (search needs)
+    (λ c. (search needs, sym (length-take-le _ _ (search needs)))))
