@@ -4,14 +4,14 @@
 -- Assumes nothing.
 use mathlib.Core.Path.{_≡_, refl, ap, sym, _∙_}
 use mathlib.Core.Bool.{Bool, true, false, _||_}
-use mathlib.Core.List.{List, [], _∷_, _++_, append-assoc, append-nil}
+use mathlib.Core.List.{List, [], _∷_, _++_, append-assoc}
 use Prim.Native.Nat.{ℕ, suc, _+_, _%_, _≤_}
 use native.Mathlib.Omega.{arith}
 use lib.Dec.{eqb}
 use lib.ListN.{length}
 use borrow.Author.Tests.{eq-eqb, ne-eqb}
 use Rattle.laws.specs.Choice.{if_then_else_}
-use Rattle.numbers.specs.Writing.{decimal, isLast, behind, writtenFrom, written, spaced, lineOf}
+use Rattle.numbers.specs.Writing.{decimal, behind, writtenFrom, written, spaced, lineOf}
 
 behind-last : (t : Bool) → _≡_ {A = ℕ} (if t || true then 10 else 32) 10
 behind-last true = refl
