@@ -17,55 +17,61 @@ use signals::Case;
 use text::Encoded;
 use text::Printed;
 
-// A line: what it is about, and what it gave.
-fn put_encoded(stream: Stream, output: &mut [u8], about: &[u8], answer: Encoded) -> Stream {
-    let begun = stream.put_all(output, about);
+fn put_written(stream: Stream, output: &mut [u8], count: usize) -> Stream {
+    stream
+        .put_all(output, b"written ")
+        .put_decimal(output, count as u64)
+}
+
+fn put_encoded(stream: Stream, output: &mut [u8], answer: Encoded) -> Stream {
     match answer {
-        Encoded::Written { count, ends: _ } => begun
-            .put_all(output, b"written ")
-            .put_decimal(output, count as u64)
-            .put(output, 10),
-        Encoded::TooLong => begun.put_refusal(output, 5, 4096).put(output, 10),
-        Encoded::NoSignal(index) => begun.put_refusal(output, 1, index as u64).put(output, 10),
-        Encoded::NoRoom(needed) => begun.put_refusal(output, 2, needed as u64).put(output, 10),
+        Encoded::Written { count, ends: _ } => put_written(stream, output, count),
+        Encoded::TooLong => stream.put_refusal(output, 5, 4096),
+        Encoded::NoSignal(index) => stream.put_refusal(output, 1, index as u64),
+        Encoded::NoRoom(needed) => stream.put_refusal(output, 2, needed as u64),
     }
 }
 
-fn put_printed(stream: Stream, output: &mut [u8], about: &[u8], answer: Printed) -> Stream {
-    let begun = stream.put_all(output, about);
+fn put_printed(stream: Stream, output: &mut [u8], answer: Printed) -> Stream {
     match answer {
-        Printed::Written { count, ends: _ } => begun
-            .put_all(output, b"written ")
-            .put_decimal(output, count as u64)
-            .put(output, 10),
-        Printed::TooLong => begun.put_refusal(output, 7, 8192).put(output, 10),
-        Printed::BadWord(index) => begun.put_refusal(output, 3, index as u64).put(output, 10),
-        Printed::NoRoom(needed) => begun.put_refusal(output, 2, needed as u64).put(output, 10),
+        Printed::Written { count, ends: _ } => put_written(stream, output, count),
+        Printed::TooLong => stream.put_refusal(output, 7, 8192),
+        Printed::BadWord(index) => stream.put_refusal(output, 3, index as u64),
+        Printed::NoRoom(needed) => stream.put_refusal(output, 2, needed as u64),
     }
+}
+
+// A line: what it is about, and what that gives.
+fn encode_line(stream: Stream, output: &mut [u8], about: &[u8], answer: Encoded) -> Stream {
+    put_encoded(stream.put_all(output, about), output, answer).put(output, 10)
+}
+
+fn print_line(stream: Stream, output: &mut [u8], about: &[u8], answer: Printed) -> Stream {
+    put_printed(stream.put_all(output, about), output, answer).put(output, 10)
 }
 
 fn text(stream: Stream, output: &mut [u8]) -> Stream {
     let mut room = [0u8; 2];
     let small = encoding::encode(b"a", Case::Letters, &mut room);
     let short = encoding::encode(b"A1", Case::Letters, &mut room);
-    let next = put_encoded(stream, output, b"encode \"a\": ", small);
-    put_encoded(next, output, b"encode \"A1\", room 2: ", short)
+    let next = encode_line(stream, output, b"encode \"a\": ", small);
+    encode_line(next, output, b"encode \"A1\", room 2: ", short)
 }
 
 fn encode_limits(stream: Stream, output: &mut [u8]) -> Stream {
     let mut room = [0u8; 8192];
     let most = encoding::encode(&[b'A'; 4096], Case::Letters, &mut room);
     let over = encoding::encode(&[b'A'; 4097], Case::Letters, &mut room);
-    let next = put_encoded(stream, output, b"encode 4096 characters: ", most);
-    put_encoded(next, output, b"encode 4097 characters: ", over)
+    let next = encode_line(stream, output, b"encode 4096 characters: ", most);
+    encode_line(next, output, b"encode 4097 characters: ", over)
 }
 
 fn print_limits(stream: Stream, output: &mut [u8]) -> Stream {
     let mut room = [0u8; 8192];
     let most = printing::print(&[71u8; 8192], Case::Letters, &mut room);
     let over = printing::print(&[71u8; 8193], Case::Letters, &mut room);
-    let next = put_printed(stream, output, b"print 8192 signals: ", most);
-    put_printed(next, output, b"print 8193 signals: ", over)
+    let next = print_line(stream, output, b"print 8192 signals: ", most);
+    print_line(next, output, b"print 8193 signals: ", over)
 }
 
 fn put_place(stream: Stream, output: &mut [u8], place: Place) -> Stream {
@@ -123,33 +129,46 @@ fn count_31(stream: Stream, output: &mut [u8]) -> Stream {
     put_stepped(next, output, b"count 31 and a bad one: ", bad)
 }
 
-// How long a sending is: no sending reaches slot 65,535, so it is refused with the number of slots.
-fn put_length(stream: Stream, output: &mut [u8], about: &[u8], text: &[u8]) -> Stream {
-    let begun = stream.put_all(output, about);
-    let slot = sending::slot(text, 65535);
+fn put_slots(stream: Stream, output: &mut [u8], slots: usize) -> Stream {
+    stream
+        .put_all(output, b" positions, ")
+        .put_decimal(output, slots as u64)
+        .put_all(output, b" slots")
+}
+
+fn put_sent(stream: Stream, output: &mut [u8], slot: Slot) -> Stream {
     match slot {
-        Slot::Word(word) => begun.put_decimal(output, word as u64).put(output, 10),
-        Slot::TooLong => begun.put_refusal(output, 7, 8192).put(output, 10),
-        Slot::BadWord(index) => begun.put_refusal(output, 3, index as u64).put(output, 10),
-        Slot::PastLast(slots) => begun
-            .put_decimal(output, (slots / 2) as u64)
-            .put_all(output, b" positions, ")
-            .put_decimal(output, slots as u64)
-            .put_all(output, b" slots\n"),
+        Slot::Word(word) => stream.put_decimal(output, word as u64),
+        Slot::TooLong => stream.put_refusal(output, 7, 8192),
+        Slot::BadWord(index) => stream.put_refusal(output, 3, index as u64),
+        Slot::PastLast(slots) => put_slots(
+            stream.put_decimal(output, (slots / 2) as u64),
+            output,
+            slots,
+        ),
     }
 }
 
+// How long a sending is: no sending reaches slot 65,535, so it is refused with the number of slots.
+fn send_line(stream: Stream, output: &mut [u8], about: &[u8], text: &[u8]) -> Stream {
+    let slot = sending::slot(text, 65535);
+    put_sent(stream.put_all(output, about), output, slot).put(output, 10)
+}
+
 fn lengths(stream: Stream, output: &mut [u8]) -> Stream {
-    let mut to = put_length(stream, output, b"send no signals: ", b"");
-    to = put_length(to, output, b"send 94 signals: ", &[71u8; 94]);
-    to = put_length(to, output, b"send 95 signals: ", &[71u8; 95]);
-    to = put_length(to, output, b"send 190 signals: ", &[71u8; 190]);
-    put_length(to, output, b"send 191 signals: ", &[71u8; 191])
+    let one = send_line(stream, output, b"send no signals: ", b"");
+    let two = send_line(one, output, b"send 94 signals: ", &[71u8; 94]);
+    send_line(two, output, b"send 95 signals: ", &[71u8; 95])
+}
+
+fn longer(stream: Stream, output: &mut [u8]) -> Stream {
+    let next = send_line(stream, output, b"send 190 signals: ", &[71u8; 190]);
+    send_line(next, output, b"send 191 signals: ", &[71u8; 191])
 }
 
 fn send_limits(stream: Stream, output: &mut [u8]) -> Stream {
-    let next = put_length(stream, output, b"send 8192 signals: ", &[71u8; 8192]);
-    put_length(next, output, b"send 8193 signals: ", &[71u8; 8193])
+    let next = send_line(stream, output, b"send 8192 signals: ", &[71u8; 8192]);
+    send_line(next, output, b"send 8193 signals: ", &[71u8; 8193])
 }
 
 // A receiver that no run of steps reaches.
@@ -175,6 +194,7 @@ fn main() {
     stream = print_limits(stream, &mut output);
     stream = count_31(stream, &mut output);
     stream = lengths(stream, &mut output);
+    stream = longer(stream, &mut output);
     stream = send_limits(stream, &mut output);
     stream = search_run_4(stream, &mut output);
     stream.finish(&output, b"examples");
