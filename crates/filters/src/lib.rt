@@ -139,8 +139,8 @@ impl Stream {
         self.with_output(0, column, !written)
     }
 
-    // Reads the next block, after what waits is written: an empty one where the input is over, a read fails or a write has
-    // failed.
+    // Reads the next block, after what waits is written: an empty one where the input is over, a read fails, as it does in an
+    // empty room, or a write has failed.
     fn refill(self, input: &mut [u8], output: &[u8]) -> Self {
         let stream = self.flush(output);
         if stream.over {
@@ -148,6 +148,9 @@ impl Stream {
         }
         if stream.unwritten {
             return stream.with_input(0, 0, true, false);
+        }
+        if input.len() == 0 {
+            return stream.with_input(0, 0, true, true);
         }
         let got = libc::read(0, input);
         let count = io::count(got, input);
