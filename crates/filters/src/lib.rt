@@ -139,8 +139,8 @@ impl Stream {
         self.with_output(0, column, !written)
     }
 
-    // Reads the next block, after what waits is written: an empty one where the input is over, a read fails or a write has
-    // failed.
+    // Reads the next block, after what waits is written: an empty one where the input is over, a read fails, as it does in an
+    // empty room, or a write has failed.
     fn refill(self, input: &mut [u8], output: &[u8]) -> Self {
         let stream = self.flush(output);
         if stream.over {
@@ -148,6 +148,9 @@ impl Stream {
         }
         if stream.unwritten {
             return stream.with_input(0, 0, true, false);
+        }
+        if input.len() == 0 {
+            return stream.with_input(0, 0, true, true);
         }
         let got = libc::read(0, input);
         let count = io::count(got, input);
@@ -499,21 +502,18 @@ fn write_first(fd: i32, room: &[u8], count: usize) -> bool {
     io::write_all(fd, &room[..count])
 }
 
-// A Rattle program has no exit status: it writes the digit of it to descriptor 3, which the script `telex` reads.
-fn end_with(digit: u8) {
-    io::write_all(3, &[digit]);
-}
-
 fn put_decimal(line: &mut [u8], at: usize, number: u64) -> usize {
     let mut digits = [0u8; 20];
     let count = io::decimal(number, &mut digits);
     numbers::put_all(line, at, &digits[..count])
 }
 
-// Writes the line to standard error at once, so that programs of a pipe do not write into each other's.
-fn write_line(line: &mut [u8], at: usize) {
+// Writes the line to standard error at once, so that programs of a pipe do not write into each other's, and the status: a Rattle
+// program has none of its own, so it writes the digit of it to descriptor 3, which the script `telex` reads.
+fn write_line(line: &mut [u8], at: usize, status: u8) {
     let end = numbers::put(line, at, 10);
     write_first(2, line, end);
+    io::write_all(3, &[status]);
 }
 
 // Tells the words on a line of standard error, behind the program's name. The line has room for what is told here.
@@ -522,8 +522,7 @@ pub fn tell(name: &[u8], words: &[u8]) {
     let mut at = numbers::put_all(&mut line, 0, name);
     at = numbers::put_all(&mut line, at, b": ");
     at = numbers::put_all(&mut line, at, words);
-    write_line(&mut line, at);
-    end_with(b'1');
+    write_line(&mut line, at, b'1');
 }
 
 // Tells what stands at a place of the input, and why it is wrong.
@@ -535,8 +534,7 @@ pub fn tell_place(name: &[u8], what: &[u8], place: u64, why: &[u8]) {
     at = put_decimal(&mut line, at, place);
     at = numbers::put_all(&mut line, at, b": ");
     at = numbers::put_all(&mut line, at, why);
-    write_line(&mut line, at);
-    end_with(b'1');
+    write_line(&mut line, at, b'1');
 }
 
 // Tells a refusal: its number and value, and then in words, the value between `before` and `after`.
@@ -551,8 +549,7 @@ pub fn tell_refusal(name: &[u8], number: u64, value: u64, before: &[u8], after: 
     at = numbers::put_all(&mut line, at, before);
     at = put_decimal(&mut line, at, value);
     at = numbers::put_all(&mut line, at, after);
-    write_line(&mut line, at);
-    end_with(b'1');
+    write_line(&mut line, at, b'1');
 }
 
 // Tells what is no number; answers whether there was such.
@@ -581,7 +578,6 @@ pub fn has_words(name: &[u8]) -> bool {
     at = numbers::put_all(&mut line, at, b": usage: ./telex ");
     at = numbers::put_all(&mut line, at, name);
     at = numbers::put_all(&mut line, at, b" < input");
-    write_line(&mut line, at);
-    end_with(b'2');
+    write_line(&mut line, at, b'2');
     true
 }

@@ -5,7 +5,7 @@ use mathlib.Core.List.{List, [], _∷_, _++_}
 use Prim.Native.Nat.{ℕ, suc, _+_, _≤_, _<_}
 use native.Mathlib.Omega.{arith}
 use lib.Dec.{leb}
-use lib.ListN.{length, set, length-append, length-set}
+use lib.ListN.{length, length-append}
 use lib.Seq.{sets, length-sets, set-out}
 use borrow.Author.Tests.{leb-true, leb-false}
 use Rattle.laws.proofs.Writes.{sets-append}

@@ -4,16 +4,15 @@
 use mathlib.Core.Path.{_≡_, refl, ap, sym, _∙_}
 use mathlib.Core.Bool.{Bool, true, false}
 use mathlib.Core.List.{List, [], _∷_}
-use mathlib.Core.Option.{some, none}
 use Prim.Native.Nat.{ℕ, suc, _+_, _-_, _*_, _^_, _≤_, _<_}
 use native.Mathlib.Omega.{arith}
 use lib.Dec.{ltb}
 use lib.ListN.{length}
-use borrow.Author.Tests.{le-ltb, ltb-true, ltb-false, ne-eqb}
+use borrow.Author.Tests.{le-ltb, ltb-false, ne-eqb}
 use Rattle.numbers.specs.declared.Reader.{Reader}
 use Rattle.numbers.specs.declared.Event.the-variants.{Nothing, Word, Over, NoDigit}
 use Rattle.numbers.specs.declared.Took.{Took}
-use Rattle.numbers.specs.Reading.{isWhite, isDigit, upToWhite, Run, runsFrom, judged, Listed, listedBy, listed, listing, overAt, noDigitAt}
+use Rattle.numbers.specs.Reading.{isWhite, isDigit, upToWhite, runsFrom, listedBy, listed, listing}
 use Rattle.numbers.specs.Steps.{between, freshReader, further, firstByte, endBrings, takingDigit, taking, telling, reading}
 use Rattle.numbers.proofs.DigitLaws.{Kind, digit, white, other, kind, digit-bounds}
 use Rattle.numbers.proofs.JudgedLaws.{judgedFrom, judged-from}

@@ -1,7 +1,8 @@
 -- What is written reads back (docs/FORMATS.md, "Numbers in, numbers out").
+--     decimal-reads        the digits of a number below 256 are that number
 --     written-reads-back   what is written lists the words, every one below 256, and no fault
 -- Assumes nothing.
-use mathlib.Core.Path.{_≡_, refl, ap, sym, _∙_}
+use mathlib.Core.Path.{_≡_, refl, ap, _∙_}
 use mathlib.Core.Bool.{Bool, true, false, not, _&&_, _||_}
 use mathlib.Core.List.{List, [], _∷_, _++_}
 use mathlib.Core.Option.{none}
@@ -11,7 +12,7 @@ use lib.Dec.{T, eqb, eqb→eq}
 use lib.ListN.{length, getD}
 use Rattle.laws.specs.Choice.{if_then_else_}
 use Rattle.laws.proofs.Below.{at-below, both-left, both-right}
-use Rattle.numbers.specs.Reading.{isWhite, isDigit, upToWhite, Run, runsFrom, leadingDigits, valueOf, Judged, number, over, noDigit, judged, Listed, listed, listing}
+use Rattle.numbers.specs.Reading.{isWhite, isDigit, upToWhite, Run, runsFrom, leadingDigits, valueOf, Judged, number, over, noDigit, judged, listed, listing}
 use Rattle.numbers.specs.Writing.{decimal, behind, isLast, writtenFrom, written}
 
 -- The digits of a word are a run, which is that number: a test computed at each of the 256.
@@ -40,6 +41,21 @@ isDecimal n = isBegun (decimal n) && (allBlack (decimal n) && isNumber n (judged
 decimal-is : (n : ℕ) → n < 256 → T (isDecimal n)
 unfolding isDecimal isBegun allBlack isNumber decimal judged leadingDigits valueOf isDigit isWhite
 decimal-is n h = at-below isDecimal 256 tt n h
+
+module _ (n : ℕ) (h : n < 256) where
+  begun : T (isBegun (decimal n))
+  unfolding isDecimal
+  begun = both-left (isBegun (decimal n)) (allBlack (decimal n) && isNumber n (judged (decimal n))) (decimal-is n h)
+
+  black-and-number : T (allBlack (decimal n) && isNumber n (judged (decimal n)))
+  unfolding isDecimal
+  black-and-number = both-right (isBegun (decimal n)) (allBlack (decimal n) && isNumber n (judged (decimal n))) (decimal-is n h)
+
+  black : T (allBlack (decimal n))
+  black = both-left (allBlack (decimal n)) (isNumber n (judged (decimal n))) black-and-number
+
+  pub decimal-reads : judged (decimal n) ≡ number n
+  decimal-reads = isNumber→ n (judged (decimal n)) (both-right (allBlack (decimal n)) (isNumber n (judged (decimal n))) black-and-number)
 
 -- a run, and the white space behind it
 not→ : (t : Bool) → T (not t) → t ≡ false
@@ -77,16 +93,12 @@ behind-white true = refl
 behind-white false = refl
 
 lists-back : (ws : List ℕ) (i p : ℕ) → ((k : ℕ) → k < length ws → getD ws k 0 < 256) → listed (runsFrom p true (writtenFrom i ws)) ≡ record { values = ws; fault = none }
-unfolding listed writtenFrom runsFrom isDecimal
+unfolding listed writtenFrom runsFrom
 lists-back [] i p h = refl
 lists-back (w ∷ ws) i p h =
-    let t = decimal-is w (h 0 (omega arith)) in
-    let begun = both-left (isBegun (decimal w)) (allBlack (decimal w) && isNumber w (judged (decimal w))) t in
-    let more = both-right (isBegun (decimal w)) (allBlack (decimal w) && isNumber w (judged (decimal w))) t in
-    let black = both-left (allBlack (decimal w)) (isNumber w (judged (decimal w))) more in
-    let value = isNumber→ w (judged (decimal w)) (both-right (allBlack (decimal w)) (isNumber w (judged (decimal w))) more) in
+    let small = h 0 (omega arith) in
     let rest = writtenFrom (i + 1) ws in
-    rw (run-first (behind i ws) (behind-white (eqb (i % 16) 15 || isLast ws)) rest (decimal w) p begun black, value, lists-back ws (i + 1) (p + suc (length (decimal w))) (λ k b. h (suc k) (omega arith)))
+    rw (run-first (behind i ws) (behind-white (eqb (i % 16) 15 || isLast ws)) rest (decimal w) p (begun w small) (black w small), decimal-reads w small, lists-back ws (i + 1) (p + suc (length (decimal w))) (λ k b. h (suc k) (omega arith)))
 
 pub written-reads-back : (ws : List ℕ) → ((k : ℕ) → k < length ws → getD ws k 0 < 256) → listing (written ws) ≡ record { values = ws; fault = none }
 written-reads-back ws h = lists-back ws 0 0 h

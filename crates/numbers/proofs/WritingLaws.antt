@@ -7,15 +7,14 @@
 use mathlib.Core.Path.{_≡_, refl, ap, sym, _∙_}
 use mathlib.Core.Bool.{Bool, true, false}
 use mathlib.Core.List.{List, [], _∷_, _++_, append-assoc, append-nil}
-use Prim.Native.Nat.{ℕ, suc, _+_, _%_, _≤_}
+use Prim.Native.Nat.{ℕ, _+_, _%_, _≤_}
 use native.Mathlib.Omega.{arith}
 use lib.Dec.{leb, ltb, eqb}
 use lib.ListN.{length, take, drop, length-append}
 use lib.Seq.{sets-eq}
 use Rattle.laws.specs.Choice.{if_then_else_}
 use borrow.Author.Tests.{leb-true, leb-false, eq-eqb, ne-eqb}
-use Rattle.numbers.specs.declared.Line.{Line}
-use Rattle.numbers.specs.Writing.{Puts, decimal, behind, writtenFrom, written, spaceBefore, feedAfter, wordAt, columnAfter, feedAtEnd, wordByWord, PutsWord, PutsWords, none, next}
+use Rattle.numbers.specs.Writing.{Puts, decimal, behind, writtenFrom, written, spaceBefore, feedAfter, wordAt, columnAfter, feedAtEnd, wordByWord, PutsWords, none, next}
 use Rattle.numbers.proofs.PutLaws.{puts-then}
 
 -- what stands between a line of `column` words and what comes next

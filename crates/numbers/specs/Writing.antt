@@ -45,6 +45,16 @@ writtenFrom i (w ∷ ws) = decimal w ++ behind i ws ∷ writtenFrom (i + 1) ws
 abbrev pub written : List ℕ → List ℕ
 written ws = writtenFrom 0 ws
 
+-- The same line by line: the words of one line, which are sixteen at most. That what is written is such lines, each full but the last, is
+-- `one-line` and `line-by-line` (proofs/LineLaws.antt).
+unfoldable pub spaced : List ℕ → List ℕ
+spaced [] = []
+spaced (w ∷ ws) = 32 ∷ (decimal w ++ spaced ws)
+
+unfoldable pub lineOf : List ℕ → List ℕ
+lineOf [] = []
+lineOf (w ∷ ws) = decimal w ++ (spaced ws ++ 10 ∷ [])
+
 -- One word at a time, where `column` words stand on the line: the space goes before a word, since what comes next is not known, and a
 -- line that has been begun is ended at the end. That this makes what `written` says is `words-are-written` (proofs/WritingLaws.antt).
 abbrev pub spaceBefore : ℕ → List ℕ

@@ -1,5 +1,4 @@
 -- `numbers::put_number` meets its contract: one digit, two or three. Assumes nothing.
-use mathlib.Core.Path.{refl}
 use borrow.Author.Tests.{lt-ltb, le-ltb}
 use Rattle.numbers.specs.Writing.{decimal}
 use Rattle.numbers.proofs.PutLaws.{puts-then}
