@@ -112,6 +112,19 @@ fn put_printed(line: &mut [u8], at: usize, printed: Words, case: Case) -> Put {
     }
 }
 
+// What a line has behind the step's number.
+fn put_rest(line: &mut [u8], sent: Words, printed: Words, case: Case) -> Put {
+    let mut at = numbers::put(line, 0, 32);
+    at = put_sent(line, at, sent);
+    at = numbers::put(line, at, 32);
+    let put = put_printed(line, at, printed, case);
+    let ends = put.case;
+    Put {
+        at: numbers::put(line, put.at, 10),
+        case: ends,
+    }
+}
+
 // One step, and its line. No fresh slave without offers comes to a refusal.
 fn heard(before: Hearing, output: &mut [u8], burst: Words, step: u64) -> Hearing {
     let slave = before.slave;
@@ -122,16 +135,14 @@ fn heard(before: Hearing, output: &mut [u8], burst: Words, step: u64) -> Hearing
     let sent = reply.sent;
     let printed = reply.printed;
     let mut line = [0u8; 32];
-    let mut at = numbers::put(&mut line, 0, 32);
-    at = put_sent(&mut line, at, sent);
-    at = numbers::put(&mut line, at, 32);
-    let put = put_printed(&mut line, at, printed, case);
+    let put = put_rest(&mut line, sent, printed, case);
     let ends = put.case;
-    at = numbers::put(&mut line, put.at, 10);
     Hearing {
         slave: after,
         case: ends,
-        stream: stream.put_decimal(output, step).put_line(output, &line, at),
+        stream: stream
+            .put_decimal(output, step)
+            .put_line(output, &line, put.at),
     }
 }
 
