@@ -225,6 +225,11 @@ def encode_cases(draw):
     for size in OUTPUT_SIZES:
         two, three = made_up(size, 3)
         out.append(from_file("%d bytes written" % size, b"A" * two + b"L" * three))
+    # the longest that a word can be, a space, three digits and a line feed,
+    # from six bytes before the end of a block on
+    for short in range(59, 66):
+        out.append(from_file("the longest word at the end of a block, %d" % short,
+                             b"A" * short + b"L" * (66 * 16 - short)))
     for length in (1, 15, 16, 17, 31, 32, 33, 4095, 4096):
         out.append(quickly("letter of %d" % length, letter(draw, length)))
         out.append(quickly("characters, %d" % length, characters(draw, length)))
@@ -374,6 +379,9 @@ def send_cases(draw):
     out.extend(with_words(b"86"))
     for size in (BLOCK - 2, BLOCK, BLOCK + 2, 2 * BLOCK):
         out.append(from_file("%d bytes written" % size, plain(text_sent_in(size))))
+    # words of two and of three digits, so that lines end anywhere in a block
+    for _ in range(8):
+        out.append(from_file("words of two lengths", plain(draw.choices((71, 101), k=900))))
     out.extend(border_cases(make))
     lengths = [1, 2, 93, 96, 97, 189, 192, 193]
     for number in SEND_BREAKS:
@@ -1382,7 +1390,8 @@ def spoken():
 STEP_RECORD = bytes([1, 4, 1, 0, 0, 0, 0, 31, 0, 0, 116, 86, 51, 0, 0, 0, 0])
 
 CONVERSATIONS = {
-    "hear": [[bytes([116, 86, 51]), bytes([86, 0, 86]), bytes([54, 99]),
+    # the header comes before anything is read
+    "hear": [[b"", bytes([116, 86, 51]), bytes([86, 0, 86]), bytes([54, 99]),
               bytes([114]), bytes([51, 15, 51, CS1, 0, 0])]],
     "steps": [[STEP_RECORD, STEP_RECORD + STEP_RECORD[:5], STEP_RECORD[5:]]],
     "calls": [[b"MV", text_record(b"E", 0, 4, b"A1"), slot_record(36, [86]),
