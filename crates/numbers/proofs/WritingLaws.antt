@@ -2,7 +2,7 @@
 --     words-are-written      the bytes, one word behind the other and a line feed where a line has been begun
 --     words-put-are-written  the same of lent room
 --     put-where-it-fits      where there is room, the room's other bytes are as they were
---     word-le                a word takes five bytes at most
+--     word-fits              where any word fits, this one does, whole
 -- Assumes nothing.
 use mathlib.Core.Path.{_≡_, refl, ap, sym, _∙_}
 use mathlib.Core.Bool.{Bool, true, false}
@@ -14,7 +14,7 @@ use lib.ListN.{length, take, drop, length-append}
 use lib.Seq.{sets-eq}
 use Rattle.laws.specs.Choice.{if_then_else_}
 use borrow.Author.Tests.{leb-true, leb-false, eq-eqb, ne-eqb}
-use Rattle.numbers.specs.Writing.{Puts, decimal, behind, writtenFrom, written, spaceBefore, feedAfter, wordAt, columnAfter, feedAtEnd, wordByWord, PutsWords, none, next}
+use Rattle.numbers.specs.Writing.{Puts, fitsWord, decimal, behind, writtenFrom, written, spaceBefore, feedAfter, wordAt, columnAfter, feedAtEnd, wordByWord, PutsWords, none, next}
 use Rattle.numbers.proofs.PutLaws.{puts-then}
 
 -- what stands between a line of `column` words and what comes next
@@ -86,7 +86,11 @@ digits-le n true u e f = rw e (omega arith)
 digits-le n false true e f = rw (e, f) (omega arith)
 digits-le n false false e f = rw (e, f) (omega arith)
 
-pub word-le : (column word : ℕ) → length (wordAt column word) ≤ 5
+word-le : (column word : ℕ) → length (wordAt column word) ≤ 5
 unfolding wordAt
 word-le column word =
     omega (arith, length-append (spaceBefore column) (decimal word ++ feedAfter column), length-append (decimal word) (feedAfter column), space-le (eqb column 0), feed-le (leb 15 column), digits-le word (ltb word 10) (ltb word 100) refl refl)
+
+pub word-fits : (size at column word : ℕ) → fitsWord size at ≡ true → at + length (wordAt column word) ≤ size
+unfolding fitsWord
+word-fits size at column word e = omega (arith, leb-true (at + 5) size e, word-le column word)

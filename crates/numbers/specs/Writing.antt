@@ -66,6 +66,11 @@ feedAfter column = if leb 15 column then 10 ∷ [] else []
 unfoldable pub wordAt : ℕ → ℕ → List ℕ
 wordAt column word = spaceBefore column ++ (decimal word ++ feedAfter column)
 
+-- whether any word fits from a place on: five bytes are a space, three digits and a line feed. That then none is dropped is `word-fits`
+-- (proofs/WritingLaws.antt).
+unfoldable pub fitsWord : (size at : ℕ) → Bool
+fitsWord size at = leb (at + 5) size
+
 abbrev pub columnAfter : ℕ → ℕ
 columnAfter column = if leb 15 column then 0 else column + 1
 

@@ -3,9 +3,10 @@
 ghost use mathlib.Core.Path.{_≡_};
 ghost use mathlib.Core.List.{[], _∷_};
 ghost use Prim.Native.Nat.{_<_};
+ghost use lib.ListN.{length};
 ghost use Rattle.numbers.specs.Reading.{isWhite, isDigit};
 ghost use Rattle.numbers.specs.Steps.{freshReader, further, firstByte, endBrings, takingDigit, taking};
-ghost use Rattle.numbers.specs.Writing.{Puts, decimal, hexDigit, hexadecimal, spaceBefore, PutsWord};
+ghost use Rattle.numbers.specs.Writing.{Puts, decimal, hexDigit, hexadecimal, spaceBefore, PutsWord, fitsWord};
 
 // A reader of decimal numbers, 0 to 255, between white space: the place of the next byte, and of the number that has begun
 // its first byte and its value so far.
@@ -146,7 +147,7 @@ impl Reader {
 }
 
 // The bytes that a word takes at most as it is written: a space, three digits, a line feed.
-pub const LONGEST: usize = 5;
+const LONGEST: usize = 5;
 
 // The place past what was put, and the words that stand on the line.
 pub struct Line {
@@ -202,6 +203,19 @@ fn put_space(room: &mut [u8], at: usize, column: usize) -> usize
         return at;
     }
     put(room, at, 32)
+}
+
+// Whether any word fits into the room from `at` on, whatever its column.
+pub fn fits_word(room: &[u8], at: usize) -> bool
+    ensures { λ r. ⌜ r ≡ fitsWord (length (now (room .entry))) at ⌝ }
+{
+    if room.len() < at {
+        return false;
+    }
+    if room.len() - at < LONGEST {
+        return false;
+    }
+    true
 }
 
 // A word as it is written, sixteen to a line, where `column` words stand on the line already.

@@ -12,7 +12,7 @@ use Rattle.numbers.specs.declared.Event.{Event}
 use Rattle.numbers.specs.declared.Took.{Took}
 use Rattle.numbers.specs.declared.Line.{Line}
 use Rattle.numbers.specs.Steps.{freshReader, taking, endBrings}
-use Rattle.numbers.specs.Writing.{Puts, decimal, hexadecimal, PutsWord}
+use Rattle.numbers.specs.Writing.{Puts, decimal, hexadecimal, PutsWord, fitsWord}
 use Rattle.signals.specs.declared.Row.{Row}
 use Rattle.signals.specs.Meaning.{trafficOf}
 use Rattle.signals.specs.Rows.{row, Rows}
@@ -118,6 +118,9 @@ put-number-unique room at number r r′ after after′ p q = puts-unique room at
 
 pub put-hex-unique : (room : List ℕ) (at byte : ℕ) (r r′ : ℕ) (after after′ : List ℕ) → Puts room at (hexadecimal byte) r after → Puts room at (hexadecimal byte) r′ after′ → (r ≡ r′) × (after ≡ after′)
 put-hex-unique room at byte r r′ after after′ p q = puts-unique room at (hexadecimal byte) r r′ after after′ p q
+
+pub fits-word-unique : (size at : ℕ) (r r′ : Bool) → r ≡ fitsWord size at → r′ ≡ fitsWord size at → r ≡ r′
+fits-word-unique size at r r′ p q = unique p q
 
 pub put-word-unique : (room : List ℕ) (at column word : ℕ) (r r′ : Line) (after after′ : List ℕ) → PutsWord room at column word r after → PutsWord room at column word r′ after′ → (r ≡ r′) × (after ≡ after′)
 put-word-unique room at column word r r′ after after′ p q =
