@@ -1,15 +1,15 @@
--- `Stream::scan` is safe and ends. Assumes nothing.
+-- `scan` is safe and ends. Assumes nothing.
 use Prim.Native.Nat.{_-_, _≤_}
 use lib.ListN.{length}
 use borrow.Author.Needs.{needs}
-use Rattle.filters.proofs.Stream.scan.Statement.{statement}
-use Rattle.filters.proofs.Stream.scan.Tie as tie
+use Rattle.filters.proofs.scan.Statement.{statement}
+use Rattle.filters.proofs.scan.Tie as tie
 
 pub scan-spec : {M : Type 1} → statement M
 scan-spec =
     tie.close
     (tie.spec
-    (λ self block end place₀ start₀ value₀ begun₀ next₀ place start value begun next. end ≤ length block)
-    (λ self block end place₀ start₀ value₀ begun₀ next₀ place start value begun next. end - next)
+    (λ block from end place₀ start₀ value₀ begun₀ next₀ place start value begun next. end ≤ length block)
+    (λ block from end place₀ start₀ value₀ begun₀ next₀ place start value begun next. end - next)
     (search needs) (search needs) (search needs) (search needs) (search needs) (search needs) (search needs) (search needs)
-    (search needs) (search needs) (search needs))
+    (search needs) (search needs))
