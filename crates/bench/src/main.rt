@@ -144,10 +144,26 @@ fn is_digit(byte: u8) -> bool {
     byte < 58
 }
 
-// The number that starts at a place, 0 where none does, and the place behind it and one byte more.
+// The number that starts at a place, the largest where it is over that; the place behind it and one byte more; and that byte, or
+// 0 where no number starts.
 pub struct Parsed {
     pub value: u64,
     pub next: usize,
+    pub behind: u8,
+}
+
+fn grown(value: u64, digit: u8) -> u64 {
+    if value < 1000000000000000000 {
+        return value * 10 + (digit % 16) as u64;
+    }
+    u64::MAX
+}
+
+fn behind(begun: bool, byte: u8) -> u8 {
+    if begun {
+        return byte;
+    }
+    0
 }
 
 fn number_from(bytes: &[u8], from: usize) -> Parsed {
@@ -155,26 +171,72 @@ fn number_from(bytes: &[u8], from: usize) -> Parsed {
     let mut i = from;
     while i < bytes.len() {
         if !is_digit(bytes[i]) {
-            return Parsed { value, next: i + 1 };
+            return Parsed {
+                value,
+                next: i + 1,
+                behind: behind(from < i, bytes[i]),
+            };
         }
-        value = (value % 1000000000000000) * 10 + ((bytes[i] % 16) as u64);
+        value = grown(value, bytes[i]);
         i += 1;
     }
-    Parsed { value, next: i }
+    Parsed {
+        value,
+        next: i,
+        behind: 0,
+    }
 }
 
-fn asked_in(bytes: &[u8]) -> Asked {
-    let call = number_from(bytes, 0);
-    let times = number_from(bytes, call.next);
-    let length = number_from(bytes, times.next);
+fn is_white(byte: u8) -> bool {
+    match byte {
+        9 | 10 | 13 | 32 => true,
+        _ => false,
+    }
+}
+
+// Whether nothing but white space stands from the place on.
+fn is_blank(bytes: &[u8], from: usize) -> bool {
+    let mut i = from;
+    while i < bytes.len() {
+        if !is_white(bytes[i]) {
+            return false;
+        }
+        i += 1;
+    }
+    true
+}
+
+fn may_run(call: u64, length: u64) -> bool {
+    if 6 < call {
+        return false;
+    }
+    length <= 8192
+}
+
+// What a line asks for that ends in white space; call 0 where it is no such line.
+fn asked_in(line: &[u8]) -> Asked {
+    let call = number_from(line, 0);
+    let times = number_from(line, call.next);
+    let length = number_from(line, times.next);
+    if call.behind == 32 {
+        if times.behind == 32 {
+            if is_white(length.behind) {
+                if is_blank(line, length.next) {
+                    if may_run(call.value, length.value) {
+                        return Asked {
+                            call: call.value,
+                            times: times.value,
+                            length: length.value as usize,
+                        };
+                    }
+                }
+            }
+        }
+    }
     Asked {
-        call: call.value,
-        times: times.value,
-        length: if length.value < 8192 {
-            length.value as usize
-        } else {
-            8192
-        },
+        call: 0,
+        times: 0,
+        length: 0,
     }
 }
 
@@ -627,12 +689,35 @@ fn run_receive(times: u64) -> u64 {
     receive_often(times, &stream[..slots])
 }
 
-fn answer(stream: Stream, output: &mut [u8], name: &[u8], sum: u64) {
-    stream
-        .put_all(output, name)
-        .put_decimal(output, sum)
-        .put(output, 10)
-        .finish(output, b"bench");
+fn run(asked: Asked) -> u64 {
+    let call = asked.call;
+    match call {
+        1 => run_meaning(asked.times),
+        2 => run_encode(asked.times, asked.length),
+        3 => run_print(asked.times, asked.length),
+        4 => run_step(asked.times),
+        5 => run_slot(asked.times, asked.length),
+        _ => run_receive(asked.times),
+    }
+}
+
+fn put_name(line: &mut [u8], call: u64) -> usize {
+    match call {
+        1 => numbers::put_all(line, 0, b"meaning "),
+        2 => numbers::put_all(line, 0, b"encode "),
+        3 => numbers::put_all(line, 0, b"print "),
+        4 => numbers::put_all(line, 0, b"step "),
+        5 => numbers::put_all(line, 0, b"slot "),
+        _ => numbers::put_all(line, 0, b"receive "),
+    }
+}
+
+fn answer(stream: Stream, output: &mut [u8], asked: Asked) {
+    let mut line = [0u8; 32];
+    let mut at = put_name(&mut line, asked.call);
+    at = filters::put_decimal(&mut line, at, run(asked));
+    at = numbers::put(&mut line, at, 10);
+    stream.put_line(output, &line, at).finish(output, b"bench");
 }
 
 fn main() {
@@ -641,40 +726,23 @@ fn main() {
     }
     let mut input = [0u8; 64];
     let mut output = [0u8; 64];
-    let mut line = [0u8; 64];
-    let read = Stream::new().record(&mut input, &output, &mut line);
+    // white space behind what is read; an input that fills the line is too long
+    let mut line = [32u8; 64];
+    let read = Stream::new().record(&mut input, &output, &mut line, 64);
     let count = read.count;
     let stream = read.stream;
     if stream.failed(b"bench") {
         return;
     }
-    let asked = asked_in(&line[..count]);
-    let call = asked.call;
-    match call {
-        1 => answer(stream, &mut output, b"meaning ", run_meaning(asked.times)),
-        2 => answer(
-            stream,
-            &mut output,
-            b"encode ",
-            run_encode(asked.times, asked.length),
-        ),
-        3 => answer(
-            stream,
-            &mut output,
-            b"print ",
-            run_print(asked.times, asked.length),
-        ),
-        4 => answer(stream, &mut output, b"step ", run_step(asked.times)),
-        5 => answer(
-            stream,
-            &mut output,
-            b"slot ",
-            run_slot(asked.times, asked.length),
-        ),
-        6 => answer(stream, &mut output, b"receive ", run_receive(asked.times)),
-        _ => filters::tell(
-            b"bench",
-            b"no such call: the input is CALL N L, CALL 1 to 6",
-        ),
+    let asked = asked_in(&line);
+    if asked.call != 0 {
+        if count < 64 {
+            answer(stream, &mut output, asked);
+            return;
+        }
     }
+    filters::tell(
+        b"bench",
+        b"no such call: the input is CALL N L, CALL 1 to 6, L at most 8192",
+    );
 }

@@ -49,38 +49,52 @@ fn two_bytes(low: u8, high: u8) -> usize
     wide(high) * 256 + wide(low)
 }
 
+// Two capital hexadecimal digits for a byte, and for each of several.
+fn put_byte(stream: Stream, output: &mut [u8], byte: u8) -> Stream {
+    let mut digits = [0u8; 2];
+    numbers::put_hex(&mut digits, 0, byte);
+    stream.put_all(output, &digits)
+}
+
+fn put_hex(first: Stream, output: &mut [u8], bytes: &[u8]) -> Stream {
+    let mut stream = first;
+    let mut i = 0;
+    while i < bytes.len() {
+        stream = put_byte(stream, output, bytes[i]);
+        i += 1;
+    }
+    stream
+}
+
 // The whole of the lent room, or - where it has no length, and the line's end.
 fn put_room(stream: Stream, output: &mut [u8], room: &[u8]) -> Stream {
     if room.len() == 0 {
         return stream.put_all(output, b" -\n");
     }
-    stream.put(output, 32).put_hex(output, room).put(output, 10)
+    put_hex(stream.put_all(output, b" "), output, room).put_all(output, b"\n")
 }
 
-fn put_ok(stream: Stream, output: &mut [u8], written: usize, ends: Case) -> Stream {
-    let mut line = [0u8; 16];
-    let at = fields::put_case(&mut line, 0, ends);
-    stream
-        .put_all(output, b"ok ")
-        .put_decimal(output, written as u64)
-        .put_line(output, &line, at)
+fn put_ok(line: &mut [u8], written: usize, ends: Case) -> usize {
+    let mut at = numbers::put_all(line, 0, b"ok ");
+    at = filters::put_decimal(line, at, written as u64);
+    fields::put_case(line, at, ends)
 }
 
-fn put_encoded(stream: Stream, output: &mut [u8], answer: Encoded) -> Stream {
+fn put_encoded(line: &mut [u8], answer: Encoded) -> usize {
     match answer {
-        Encoded::Written { count, ends } => put_ok(stream, output, count, ends),
-        Encoded::TooLong => stream.put_refusal(output, 5, 4096),
-        Encoded::NoSignal(index) => stream.put_refusal(output, 1, index as u64),
-        Encoded::NoRoom(needed) => stream.put_refusal(output, 2, needed as u64),
+        Encoded::Written { count, ends } => put_ok(line, count, ends),
+        Encoded::TooLong => filters::put_refusal(line, 0, 5, 4096),
+        Encoded::NoSignal(index) => filters::put_refusal(line, 0, 1, index as u64),
+        Encoded::NoRoom(needed) => filters::put_refusal(line, 0, 2, needed as u64),
     }
 }
 
-fn put_printed(stream: Stream, output: &mut [u8], answer: Printed) -> Stream {
+fn put_printed(line: &mut [u8], answer: Printed) -> usize {
     match answer {
-        Printed::Written { count, ends } => put_ok(stream, output, count, ends),
-        Printed::TooLong => stream.put_refusal(output, 7, 8192),
-        Printed::BadWord(index) => stream.put_refusal(output, 3, index as u64),
-        Printed::NoRoom(needed) => stream.put_refusal(output, 2, needed as u64),
+        Printed::Written { count, ends } => put_ok(line, count, ends),
+        Printed::TooLong => filters::put_refusal(line, 0, 7, 8192),
+        Printed::BadWord(index) => filters::put_refusal(line, 0, 3, index as u64),
+        Printed::NoRoom(needed) => filters::put_refusal(line, 0, 2, needed as u64),
     }
 }
 
@@ -99,6 +113,13 @@ fn fill(room: &mut [u8], size: usize) -> usize
     i
 }
 
+fn put_call(line: &mut [u8], kind: u8, case: Case, list: &[u8], room: &mut [u8]) -> usize {
+    if kind == b'E' {
+        return put_encoded(line, encoding::encode(list, case, room));
+    }
+    put_printed(line, printing::print(list, case, room))
+}
+
 // A call of kind E or P.
 fn call(
     stream: Stream,
@@ -108,22 +129,21 @@ fn call(
     list: &[u8],
     room: &mut [u8],
 ) -> Stream {
-    if kind == b'E' {
-        let answer = encoding::encode(list, case, room);
-        return put_room(put_encoded(stream, output, answer), output, room);
-    }
-    let answer = printing::print(list, case, room);
-    put_room(put_printed(stream, output, answer), output, room)
+    let mut line = [0u8; 32];
+    let at = put_call(&mut line, kind, case, list, room);
+    put_room(stream.put_line(output, &line, at), output, room)
 }
 
-fn put_slot(stream: Stream, output: &mut [u8], slot: Slot) -> Stream {
+// A call of kind S.
+fn put_slot(line: &mut [u8], slot: Slot) -> usize {
     match slot {
-        Slot::Word(word) => stream
-            .put_all(output, b"ok ")
-            .put_decimal(output, word as u64),
-        Slot::TooLong => stream.put_refusal(output, 7, 8192),
-        Slot::BadWord(index) => stream.put_refusal(output, 3, index as u64),
-        Slot::PastLast(slots) => stream.put_refusal(output, 6, slots as u64),
+        Slot::Word(word) => {
+            let at = numbers::put_all(line, 0, b"ok ");
+            numbers::put_number(line, at, word)
+        }
+        Slot::TooLong => filters::put_refusal(line, 0, 7, 8192),
+        Slot::BadWord(index) => filters::put_refusal(line, 0, 3, index as u64),
+        Slot::PastLast(slots) => filters::put_refusal(line, 0, 6, slots as u64),
     }
 }
 
@@ -132,12 +152,9 @@ fn four_bytes(head: &[u8; 10]) -> usize {
 }
 
 // A call of kind M.
-fn put_meaning(stream: Stream, output: &mut [u8], byte: u8) -> Stream {
-    let mut line = [0u8; 16];
-    let mut at = numbers::put_number(&mut line, 0, signals::meaning(byte));
-    at = fields::put_flag(&mut line, at, signals::intact(byte));
-    at = numbers::put(&mut line, at, 10);
-    stream.put_line(output, &line, at)
+fn put_meaning(line: &mut [u8], byte: u8) -> usize {
+    let at = numbers::put_number(line, 0, signals::meaning(byte));
+    fields::put_flag(line, at, signals::intact(byte))
 }
 
 fn phasing_of(byte: u8) -> Phasing {
@@ -212,22 +229,28 @@ fn put_hearing(line: &mut [u8], receiver: Receiver) -> usize {
     }
 }
 
-fn put_heard(stream: Stream, output: &mut [u8], heard: Heard) -> Stream {
+fn put_heard(line: &mut [u8], heard: Heard) -> usize {
     let receiver = heard.receiver;
-    let mut line = [0u8; 64];
-    let mut at = put_hearing(&mut line, receiver);
-    at = numbers::put_all(&mut line, at, b" |");
-    at = fields::put_number(&mut line, at, heard.printed);
-    at = numbers::put(&mut line, at, 10);
-    stream.put_line(output, &line, at)
+    let mut at = put_hearing(line, receiver);
+    at = numbers::put_all(line, at, b" |");
+    fields::put_number(line, at, heard.printed)
 }
 
 // A call of kind R.
-fn put_received(stream: Stream, output: &mut [u8], head: &[u8; 10]) -> Stream {
+fn put_received(line: &mut [u8], head: &[u8; 10]) -> usize {
     let received = receiving::receive(receiver_of(head), head[9]);
     match received {
-        Received::Done(heard) => put_heard(stream, output, heard),
-        Received::BadReceiver(_) => stream.put_all(output, b"refused 4 0\n"),
+        Received::Done(heard) => put_heard(line, heard),
+        Received::BadReceiver(_) => filters::put_refusal(line, 0, 4, 0),
+    }
+}
+
+// A call of another kind.
+fn put_other(line: &mut [u8], kind: u8, head: &[u8; 10], list: &[u8]) -> usize {
+    match kind {
+        b'S' => put_slot(line, sending::slot(list, four_bytes(head))),
+        b'M' => put_meaning(line, head[0]),
+        _ => put_received(line, head),
     }
 }
 
@@ -283,9 +306,12 @@ fn answer(
                 &mut room[..filled],
             )
         }
-        b'S' => put_slot(stream, output, sending::slot(list, four_bytes(head))).put(output, 10),
-        b'M' => put_meaning(stream, output, head[0]),
-        _ => put_received(stream, output, head),
+        _ => {
+            let mut line = [0u8; 64];
+            let mut at = put_other(&mut line, kind, head, list);
+            at = numbers::put(&mut line, at, 10);
+            stream.put_line(output, &line, at)
+        }
     }
 }
 
@@ -311,7 +337,7 @@ fn listed(
     if list.len() < length {
         return none(stream, End::Length);
     }
-    let read = stream.read_first(input, output, list, length);
+    let read = stream.record(input, output, list, length);
     let after = read.stream;
     let count = read.count;
     if count != length {
@@ -338,7 +364,7 @@ fn headed(
         return none(stream, End::NoKind);
     }
     let mut head = [0u8; 10];
-    let read = stream.read_first(input, output, &mut head, needed);
+    let read = stream.record(input, output, &mut head, needed);
     let after = read.stream;
     if read.count != needed {
         return none(after, End::CutShort);
@@ -353,35 +379,31 @@ fn record(
     list: &mut [u8],
     room: &mut [u8],
 ) -> Came {
-    let first = stream.byte(input, output);
-    let begun = first.stream;
-    if first.more {
-        return headed(begun, input, output, first.byte, list, room);
+    let mut kind = [0u8; 1];
+    let read = stream.record(input, output, &mut kind, 1);
+    let after = read.stream;
+    if read.count == 0 {
+        return none(after, End::Over);
     }
-    none(begun, End::Over)
+    headed(after, input, output, kind[0], list, room)
 }
 
 // Writes what waits, and tells why there is no record at the place. Where reading or writing has failed, that is told instead.
 fn tell(stream: Stream, output: &[u8], place: u64, why: &[u8]) {
-    let flushed = stream.flush(output);
-    if flushed.unread {
-        flushed.finish(output, b"calls");
-        return;
+    if stream.finish(output, b"calls") {
+        filters::tell_value(b"calls", b"bad record at ", place, why);
     }
-    if flushed.unwritten {
-        flushed.finish(output, b"calls");
-        return;
-    }
-    filters::tell_place(b"calls", b"bad record at ", place, why);
 }
 
 fn finish(stream: Stream, output: &[u8], place: u64, end: End) {
     match end {
-        End::Over => stream.finish(output, b"calls"),
-        End::NoKind => tell(stream, output, place, b"no such kind"),
-        End::CutShort => tell(stream, output, place, b"cut short"),
-        End::Room => tell(stream, output, place, b"a room over 8192"),
-        End::Length => tell(stream, output, place, b"a length over 8193"),
+        End::Over => {
+            stream.finish(output, b"calls");
+        }
+        End::NoKind => tell(stream, output, place, b": no such kind"),
+        End::CutShort => tell(stream, output, place, b": cut short"),
+        End::Room => tell(stream, output, place, b": a room over 8192"),
+        End::Length => tell(stream, output, place, b": a length over 8193"),
     }
 }
 

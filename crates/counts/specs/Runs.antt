@@ -13,7 +13,6 @@ use Rattle.mode_a.specs.declared.Station.{Station}
 use Rattle.mode_a.specs.declared.Reply.{Reply}
 use Rattle.mode_a.specs.Station.{ααα}
 use Rattle.mode_a.specs.Heard.{Heard, heardOf, isWords}
-use Rattle.mode_a.specs.Step.{movedTo}
 use Rattle.runs.specs.Places.{changed, counting}
 use Rattle.runs.specs.Runs.{Event, Run, start, _▷_, said, next, after, confirms, accepting}
 
@@ -23,7 +22,7 @@ stays p h p′ = counting p && (not (confirms p h) && (not (accepting p h) && no
 
 -- The time-out itself is no change of place: what counts is where the same burst and offer lead from a count of 0.
 abbrev pub uncounted : Station → Station
-uncounted s = movedTo s (s .place)
+uncounted s = record { role = s .role; place = s .place; count = 0; case = s .case; plus = s .plus }
 
 abbrev pub leadsTo : Station → Event → Place
 leadsTo s e = next (uncounted s) e .place

@@ -3,13 +3,25 @@ use filters::Stream;
 use signals::Case;
 use text::Encoded;
 
+// The first `count` of the words, as they are written, and the end of their last line.
+fn put_words(first: Stream, output: &mut [u8], words: &[u8], count: usize) -> Stream {
+    let mut stream = first;
+    let mut i = 0;
+    while i < words.len() {
+        if count <= i {
+            return stream.end_line(output);
+        }
+        stream = stream.put_word(output, words[i]);
+        i += 1;
+    }
+    stream.end_line(output)
+}
+
 // The signals written, or the refusal told.
 fn tell(stream: Stream, output: &mut [u8], answer: Encoded, room: &[u8]) {
     match answer {
         Encoded::Written { count, ends: _ } => {
-            stream
-                .put_words(output, room, count)
-                .finish(output, b"encode");
+            put_words(stream, output, room, count).finish(output, b"encode");
         }
         Encoded::TooLong => filters::tell_refusal(b"encode", 5, 4096, b"over ", b" characters"),
         Encoded::NoSignal(index) => filters::tell_refusal(
@@ -38,7 +50,7 @@ fn main() {
     let mut output = [0u8; 4096];
     // one character over the limit is enough to refuse
     let mut characters = [0u8; 4097];
-    let read = Stream::new().record(&mut input, &output, &mut characters);
+    let read = Stream::new().record(&mut input, &output, &mut characters, 4097);
     let count = read.count;
     let stream = read.stream;
     if stream.failed(b"encode") {

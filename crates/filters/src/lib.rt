@@ -6,50 +6,57 @@ use numbers::Event;
 use numbers::Reader;
 
 // A program's two streams, which go through two rooms that it lends: in the input room the next byte and the place past the
-// last; in the output room the place past what waits to be written. Then the reader of the numbers, the words that stand on the
-// line that is written, and how it stands: the input is over, a read has failed, a write has failed.
+// last; in the output room the place past what waits to be written. Then the words that stand on the line that is written, and
+// how it stands: one of the four below.
 pub struct Stream {
     pub next: usize,
     pub end: usize,
     pub waiting: usize,
-    pub reader: Reader,
     pub column: usize,
-    pub over: bool,
-    pub unread: bool,
-    pub unwritten: bool,
+    pub state: u8,
 }
+
+// There may be more to read; the input is over; a read has failed; a write has failed. All but the first end the input.
+pub const GOING: u8 = 0;
+
+pub const OVER: u8 = 1;
+
+pub const UNREAD: u8 = 2;
+
+pub const UNWRITTEN: u8 = 3;
 
 // A byte of the input, if there is one more.
-pub struct Byte {
-    pub stream: Stream,
-    pub byte: u8,
-    pub more: bool,
-}
-
-// A number of the input, its end, or the place where something stands that is no number.
-pub enum Number {
-    Word(u8),
-    End,
-    Over(u64),
-    NoDigit(u64),
-}
-
-// What the rest of a block brings.
-struct Scanned {
+struct Byte {
     stream: Stream,
+    byte: u8,
+    more: bool,
+}
+
+// What the rest of a block brings, and the place of the next byte.
+struct Scanned {
+    next: usize,
+    reader: Reader,
     event: Event,
 }
 
+// What comes next: a number, something that is none, or nothing, where the input is over.
 pub struct Numbered {
     pub stream: Stream,
-    pub number: Number,
+    pub reader: Reader,
+    pub event: Event,
 }
 
-// How many bytes or numbers stand in a room, and what came behind them.
+// How many bytes stand in a room.
 pub struct Filled {
     pub stream: Stream,
     pub count: usize,
-    pub number: Number,
+}
+
+// How many numbers stand in a room, and what came behind them.
+pub struct Listed {
+    pub stream: Stream,
+    pub count: usize,
+    pub event: Event,
 }
 
 fn brings(event: Event) -> bool {
@@ -61,14 +68,58 @@ fn brings(event: Event) -> bool {
     }
 }
 
-// The number that an event brings; where it brings nothing, there is none.
-fn number_of(event: Event) -> Number {
-    match event {
-        Event::Nothing => Number::End,
-        Event::Word(word) => Number::Word(word),
-        Event::Over(place) => Number::Over(place),
-        Event::NoDigit(place) => Number::NoDigit(place),
+// Reads on in a block, up to what its bytes bring; nothing where they end before. The reader goes field by field: as a struct it
+// would be copied at each byte, padding and all.
+fn scan(block: &[u8], from: usize, end: usize, before: Reader) -> Scanned {
+    let mut place = before.place;
+    let mut start = before.start;
+    let mut value = before.value;
+    let mut begun = before.begun;
+    let mut next = from;
+    if end <= block.len() {
+        while next < end {
+            let reader = Reader {
+                place: place,
+                start: start,
+                value: value,
+                begun: begun,
+            };
+            let took = reader.take(block[next]);
+            let after = took.reader;
+            let event = took.event;
+            next += 1;
+            if brings(event) {
+                return Scanned {
+                    next,
+                    reader: after,
+                    event,
+                };
+            }
+            place = after.place;
+            start = after.start;
+            value = after.value;
+            begun = after.begun;
+        }
     }
+    Scanned {
+        next,
+        reader: Reader {
+            place: place,
+            start: start,
+            value: value,
+            begun: begun,
+        },
+        event: Event::Nothing,
+    }
+}
+
+// What the end of the input brings: a number that it ends. A read that failed is not the end, and what was begun before it no
+// number.
+fn end_brings(state: u8, reader: Reader) -> Event {
+    if state == UNREAD {
+        return Event::Nothing;
+    }
+    reader.end()
 }
 
 impl Stream {
@@ -77,94 +128,77 @@ impl Stream {
             next: 0,
             end: 0,
             waiting: 0,
-            reader: Reader::new(),
             column: 0,
-            over: false,
-            unread: false,
-            unwritten: false,
+            state: GOING,
         }
     }
 
-    fn with_input(self, next: usize, end: usize, over: bool, unread: bool) -> Self {
-        let reader = self.reader;
+    fn with_input(self, next: usize, end: usize, state: u8) -> Self {
         Stream {
             next: next,
             end: end,
             waiting: self.waiting,
-            reader: reader,
             column: self.column,
-            over: over,
-            unread: unread,
-            unwritten: self.unwritten,
+            state: state,
         }
     }
 
-    fn with_reader(self, next: usize, reader: Reader) -> Self {
-        Stream {
-            next: next,
-            end: self.end,
-            waiting: self.waiting,
-            reader: reader,
-            column: self.column,
-            over: self.over,
-            unread: self.unread,
-            unwritten: self.unwritten,
-        }
-    }
-
-    fn with_output(self, waiting: usize, column: usize, unwritten: bool) -> Self {
-        let reader = self.reader;
+    fn with_output(self, waiting: usize, column: usize, state: u8) -> Self {
         Stream {
             next: self.next,
             end: self.end,
             waiting: waiting,
-            reader: reader,
             column: column,
-            over: self.over,
-            unread: self.unread,
-            unwritten: unwritten,
+            state: state,
         }
     }
 
+    // Writes the first of the bytes, unless a write has failed; then nothing waits.
+    fn write(self, bytes: &[u8], count: usize) -> Self {
+        if self.state != UNWRITTEN {
+            if write_first(1, bytes, count) {
+                return self.with_output(0, self.column, self.state);
+            }
+        }
+        self.with_output(0, self.column, UNWRITTEN)
+    }
+
     // Writes what waits. In a room that is too short for a word it fails, so that no byte is lost untold.
-    pub fn flush(self, output: &[u8]) -> Self {
-        let column = self.column;
-        if self.unwritten {
-            return self.with_output(0, column, true);
-        }
+    fn flush(self, output: &[u8]) -> Self {
         if output.len() < numbers::LONGEST {
-            return self.with_output(0, column, true);
+            return self.with_output(0, self.column, UNWRITTEN);
         }
-        let written = write_first(1, output, self.waiting);
-        self.with_output(0, column, !written)
+        self.write(output, self.waiting)
     }
 
     // Reads the next block, after what waits is written: an empty one where the input is over, a read fails, as it does in an
     // empty room, or a write has failed.
     fn refill(self, input: &mut [u8], output: &[u8]) -> Self {
         let stream = self.flush(output);
-        if stream.over {
-            return stream;
-        }
-        if stream.unwritten {
-            return stream.with_input(0, 0, true, false);
+        if stream.state != GOING {
+            return stream.with_input(0, 0, stream.state);
         }
         if input.len() == 0 {
-            return stream.with_input(0, 0, true, true);
+            return stream.with_input(0, 0, UNREAD);
         }
         let got = libc::read(0, input);
         let count = io::count(got, input);
-        stream.with_input(0, count, count == 0, got < 0)
+        if got < 0 {
+            return stream.with_input(0, 0, UNREAD);
+        }
+        if count == 0 {
+            return stream.with_input(0, 0, OVER);
+        }
+        stream.with_input(0, count, GOING)
     }
 
     // The next byte of the block.
     fn byte_of(self, block: &[u8]) -> Byte {
         let next = self.next;
-        let end = self.end;
-        if next < end {
+        if next < self.end {
             if next < block.len() {
                 return Byte {
-                    stream: self.with_input(next + 1, end, false, false),
+                    stream: self.with_input(next + 1, self.end, self.state),
                     byte: block[next],
                     more: true,
                 };
@@ -178,177 +212,103 @@ impl Stream {
     }
 
     // The next byte of the input.
-    pub fn byte(self, input: &mut [u8], output: &[u8]) -> Byte {
+    fn byte(self, input: &mut [u8], output: &[u8]) -> Byte {
         if self.next < self.end {
             return self.byte_of(input);
         }
         self.refill(input, output).byte_of(input)
     }
 
-    // Fills the room with the bytes that come next; fewer where the input ends.
-    pub fn record(self, input: &mut [u8], output: &[u8], room: &mut [u8]) -> Filled
-        ensures { λ r. ⌜ Counts (r .count) (now (room .exit)) ⌝ }
-    {
-        self.read_first(input, output, room, room.len())
-    }
-
-    // The same with at most so many bytes.
-    pub fn read_first(self, input: &mut [u8], output: &[u8], room: &mut [u8], most: usize) -> Filled
+    // Puts the bytes that come next into the room, `most` at most; fewer where the input ends.
+    pub fn record(self, input: &mut [u8], output: &[u8], room: &mut [u8], most: usize) -> Filled
         ensures { λ r. ⌜ Counts (r .count) (now (room .exit)) ⌝ }
     {
         let mut stream = self;
         let mut count = 0;
         while count < room.len() {
             if count == most {
-                return Filled {
-                    stream,
-                    count,
-                    number: Number::End,
-                };
+                return Filled { stream, count };
             }
             let got = stream.byte(input, output);
             stream = got.stream;
             if !got.more {
-                return Filled {
-                    stream,
-                    count,
-                    number: Number::End,
-                };
+                return Filled { stream, count };
             }
             room[count] = got.byte;
             count += 1;
         }
-        Filled {
-            stream,
-            count,
-            number: Number::End,
-        }
+        Filled { stream, count }
     }
 
-    // Reads on in the block, up to what its bytes bring; nothing where they end before. The reader goes field by field: as a
-    // struct it would be copied at each byte, padding and all.
-    fn scan(self, block: &[u8]) -> Scanned {
-        let end = self.end;
-        let before = self.reader;
-        let mut place = before.place;
-        let mut start = before.start;
-        let mut value = before.value;
-        let mut begun = before.begun;
-        let mut next = self.next;
-        if end <= block.len() {
-            while next < end {
-                let reader = Reader {
-                    place: place,
-                    start: start,
-                    value: value,
-                    begun: begun,
-                };
-                let took = reader.take(block[next]);
-                let after = took.reader;
-                let event = took.event;
-                next += 1;
-                if brings(event) {
-                    return Scanned {
-                        stream: self.with_reader(next, after),
-                        event,
-                    };
-                }
-                place = after.place;
-                start = after.start;
-                value = after.value;
-                begun = after.begun;
-            }
-        }
-        Scanned {
-            stream: self.with_reader(
-                next,
-                Reader {
-                    place: place,
-                    start: start,
-                    value: value,
-                    begun: begun,
-                },
-            ),
-            event: Event::Nothing,
-        }
-    }
-
-    // The next number of the input.
-    pub fn number(self, input: &mut [u8], output: &[u8]) -> Numbered {
+    // The next number of the input. The end brings what was begun, and that once: the reader is then a new one.
+    pub fn number(self, before: Reader, input: &mut [u8], output: &[u8]) -> Numbered {
         let mut stream = self;
+        let mut reader = before;
         let mut turns = u64::MAX;
         while turns > 0 {
-            let scanned = stream.scan(input);
-            stream = scanned.stream;
+            let scanned = scan(input, stream.next, stream.end, reader);
             let event = scanned.event;
+            reader = scanned.reader;
+            stream = stream.with_input(scanned.next, stream.end, stream.state);
             if brings(event) {
                 return Numbered {
                     stream,
-                    number: number_of(event),
+                    reader,
+                    event,
                 };
             }
             stream = stream.refill(input, output);
             if stream.end == 0 {
-                return stream.last_number();
+                return Numbered {
+                    stream,
+                    reader: Reader::new(),
+                    event: end_brings(stream.state, reader),
+                };
             }
             turns -= 1;
         }
         Numbered {
             stream,
-            number: Number::End,
-        }
-    }
-
-    // What the end of the input brings: a number that it ends, once. A read that failed is not the end, and what was begun
-    // before it no number.
-    fn last_number(self) -> Numbered {
-        let before = self.reader;
-        let next = self.next;
-        let stream = self.with_reader(next, Reader::new());
-        if stream.unread {
-            return Numbered {
-                stream,
-                number: Number::End,
-            };
-        }
-        Numbered {
-            stream,
-            number: number_of(before.end()),
+            reader,
+            event: Event::Nothing,
         }
     }
 
     // Puts the numbers that come next into the room, until it is full, the input ends, or something is no number.
-    pub fn numbers(self, input: &mut [u8], output: &[u8], room: &mut [u8]) -> Filled
+    pub fn numbers(self, input: &mut [u8], output: &[u8], room: &mut [u8]) -> Listed
         ensures { λ r. ⌜ Counts (r .count) (now (room .exit)) ⌝ }
     {
         let mut stream = self;
+        let mut reader = Reader::new();
         let mut count = 0;
         while count < room.len() {
-            let got = stream.number(input, output);
+            let next = count + 1;
+            let got = stream.number(reader, input, output);
+            let event = got.event;
             stream = got.stream;
-            let number = got.number;
-            match number {
-                Number::Word(word) => {
+            reader = got.reader;
+            match event {
+                Event::Word(word) => {
                     room[count] = word;
-                    count += 1;
+                    count = next;
                 }
-                Number::End | Number::Over(_) | Number::NoDigit(_) => {
-                    return Filled {
+                Event::Nothing | Event::Over(_) | Event::NoDigit(_) => {
+                    return Listed {
                         stream,
                         count,
-                        number,
+                        event,
                     };
                 }
             }
         }
-        Filled {
+        Listed {
             stream,
             count,
-            number: Number::End,
+            event: Event::Nothing,
         }
     }
 
-    // Room for so many bytes more, LONGEST at most: where there is less, what waits is written.
+    // Where there is no room for so many bytes more, what waits is written.
     fn with_room(self, output: &[u8], bytes: usize) -> Self {
         if has_room(output, self.waiting, bytes) {
             return self;
@@ -356,29 +316,14 @@ impl Stream {
         self.flush(output)
     }
 
-    pub fn put(self, output: &mut [u8], byte: u8) -> Self {
-        let stream = self.with_room(output, 1);
-        let column = stream.column;
-        let unwritten = stream.unwritten;
-        let at = numbers::put(output, stream.waiting, byte);
-        stream.with_output(at, column, unwritten)
-    }
-
-    // The bytes, at once where there is room for them.
+    // The bytes; those that no room takes are written at once.
     pub fn put_all(self, output: &mut [u8], bytes: &[u8]) -> Self {
-        if has_room(output, self.waiting, bytes.len()) {
-            let column = self.column;
-            let unwritten = self.unwritten;
-            let at = numbers::put_all(output, self.waiting, bytes);
-            return self.with_output(at, column, unwritten);
+        let stream = self.with_room(output, bytes.len());
+        if has_room(output, stream.waiting, bytes.len()) {
+            let at = numbers::put_all(output, stream.waiting, bytes);
+            return stream.with_output(at, stream.column, stream.state);
         }
-        let mut stream = self;
-        let mut i = 0;
-        while i < bytes.len() {
-            stream = stream.put(output, bytes[i]);
-            i += 1;
-        }
-        stream
+        stream.write(bytes, bytes.len())
     }
 
     // The first `count` of the bytes.
@@ -391,16 +336,9 @@ impl Stream {
 
     // A word as it is written, sixteen to a line.
     pub fn put_word(self, output: &mut [u8], word: u8) -> Self {
-        if has_room(output, self.waiting, numbers::LONGEST) {
-            return self.store_word(output, word);
-        }
-        self.flush(output).store_word(output, word)
-    }
-
-    fn store_word(self, output: &mut [u8], word: u8) -> Self {
-        let unwritten = self.unwritten;
-        let put = numbers::put_word(output, self.waiting, self.column, word);
-        self.with_output(put.at, put.column, unwritten)
+        let stream = self.with_room(output, numbers::LONGEST);
+        let put = numbers::put_word(output, stream.waiting, stream.column, word);
+        stream.with_output(put.at, put.column, stream.state)
     }
 
     // Ends the line of words, if one has been begun.
@@ -408,63 +346,13 @@ impl Stream {
         if self.column == 0 {
             return self;
         }
-        let stream = self.put(output, 10);
-        let waiting = stream.waiting;
-        let unwritten = stream.unwritten;
-        stream.with_output(waiting, 0, unwritten)
-    }
-
-    // A number's decimal digits.
-    pub fn put_decimal(self, output: &mut [u8], number: u64) -> Self {
-        let mut digits = [0u8; 20];
-        let count = io::decimal(number, &mut digits);
-        self.put_all(output, &digits[..count])
-    }
-
-    // Two capital hexadecimal digits for each byte.
-    pub fn put_hex(self, output: &mut [u8], bytes: &[u8]) -> Self {
-        let mut stream = self;
-        let mut i = 0;
-        while i < bytes.len() {
-            stream = stream.put_hex_byte(output, bytes[i]);
-            i += 1;
-        }
-        stream
-    }
-
-    fn put_hex_byte(self, output: &mut [u8], byte: u8) -> Self {
-        let stream = self.with_room(output, 2);
-        let column = stream.column;
-        let unwritten = stream.unwritten;
-        let at = numbers::put_hex(output, stream.waiting, byte);
-        stream.with_output(at, column, unwritten)
-    }
-
-    // The number and the value of a refusal that is a line of the output.
-    pub fn put_refusal(self, output: &mut [u8], number: u64, value: u64) -> Self {
-        self.put_all(output, b"refused ")
-            .put_decimal(output, number)
-            .put(output, 32)
-            .put_decimal(output, value)
-    }
-
-    // The first `count` of the words, as they are written, and the end of their last line.
-    pub fn put_words(self, output: &mut [u8], words: &[u8], count: usize) -> Self {
-        let mut stream = self;
-        let mut i = 0;
-        while i < words.len() {
-            if count <= i {
-                return stream.end_line(output);
-            }
-            stream = stream.put_word(output, words[i]);
-            i += 1;
-        }
-        stream.end_line(output)
+        let stream = self.put_all(output, b"\n");
+        stream.with_output(stream.waiting, 0, stream.state)
     }
 
     // Whether a read has failed, which is told: what was read is then not the whole input.
     pub fn failed(self, name: &[u8]) -> bool {
-        if self.unread {
+        if self.state == UNREAD {
             tell(name, b"cannot read standard input");
             return true;
         }
@@ -472,17 +360,13 @@ impl Stream {
     }
 
     // Writes what waits; answers whether all was read and written, and tells what has failed.
-    pub fn finished(self, output: &[u8], name: &[u8]) -> bool {
+    pub fn finish(self, output: &[u8], name: &[u8]) -> bool {
         let stream = self.flush(output);
-        if stream.unwritten {
+        if stream.state == UNWRITTEN {
             tell(name, b"cannot write standard output");
             return false;
         }
         !stream.failed(name)
-    }
-
-    pub fn finish(self, output: &[u8], name: &[u8]) {
-        self.finished(output, name);
     }
 }
 
@@ -502,7 +386,9 @@ fn write_first(fd: i32, room: &[u8], count: usize) -> bool {
     io::write_all(fd, &room[..count])
 }
 
-fn put_decimal(line: &mut [u8], at: usize, number: u64) -> usize {
+// A number's decimal digits. As in `numbers`, what puts into a line answers the place past what it put, and a full line takes no
+// more.
+pub fn put_decimal(line: &mut [u8], at: usize, number: u64) -> usize {
     let mut digits = [0u8; 20];
     let count = io::decimal(number, &mut digits);
     numbers::put_all(line, at, &digits[..count])
@@ -525,26 +411,31 @@ pub fn tell(name: &[u8], words: &[u8]) {
     write_line(&mut line, at, b'1');
 }
 
-// Tells what stands at a place of the input, and why it is wrong.
-pub fn tell_place(name: &[u8], what: &[u8], place: u64, why: &[u8]) {
+// Tells the words with a value between them.
+pub fn tell_value(name: &[u8], before: &[u8], value: u64, after: &[u8]) {
     let mut line = [0u8; 160];
     let mut at = numbers::put_all(&mut line, 0, name);
     at = numbers::put_all(&mut line, at, b": ");
-    at = numbers::put_all(&mut line, at, what);
-    at = put_decimal(&mut line, at, place);
-    at = numbers::put_all(&mut line, at, b": ");
-    at = numbers::put_all(&mut line, at, why);
+    at = numbers::put_all(&mut line, at, before);
+    at = put_decimal(&mut line, at, value);
+    at = numbers::put_all(&mut line, at, after);
     write_line(&mut line, at, b'1');
 }
 
+// The number and the value of a refusal.
+pub fn put_refusal(line: &mut [u8], at: usize, number: u8, value: u64) -> usize {
+    let mut to = numbers::put_all(line, at, b"refused ");
+    to = numbers::put_number(line, to, number);
+    to = numbers::put(line, to, 32);
+    put_decimal(line, to, value)
+}
+
 // Tells a refusal: its number and value, and then in words, the value between `before` and `after`.
-pub fn tell_refusal(name: &[u8], number: u64, value: u64, before: &[u8], after: &[u8]) {
+pub fn tell_refusal(name: &[u8], number: u8, value: u64, before: &[u8], after: &[u8]) {
     let mut line = [0u8; 160];
     let mut at = numbers::put_all(&mut line, 0, name);
-    at = numbers::put_all(&mut line, at, b": refused ");
-    at = put_decimal(&mut line, at, number);
-    at = numbers::put(&mut line, at, 32);
-    at = put_decimal(&mut line, at, value);
+    at = numbers::put_all(&mut line, at, b": ");
+    at = put_refusal(&mut line, at, number, value);
     at = numbers::put_all(&mut line, at, b": ");
     at = numbers::put_all(&mut line, at, before);
     at = put_decimal(&mut line, at, value);
@@ -553,16 +444,21 @@ pub fn tell_refusal(name: &[u8], number: u64, value: u64, before: &[u8], after: 
 }
 
 // Tells what is no number; answers whether there was such.
-pub fn tell_number(name: &[u8], number: Number) -> bool {
-    match number {
-        Number::Word(_) => false,
-        Number::End => false,
-        Number::Over(place) => {
-            tell_place(name, b"not a number at ", place, b"over 255");
+pub fn tell_number(name: &[u8], event: Event) -> bool {
+    match event {
+        Event::Nothing => false,
+        Event::Word(_) => false,
+        Event::Over(place) => {
+            tell_value(name, b"not a number at ", place, b": over 255");
             true
         }
-        Number::NoDigit(place) => {
-            tell_place(name, b"not a number at ", place, b"a byte that is no digit");
+        Event::NoDigit(place) => {
+            tell_value(
+                name,
+                b"not a number at ",
+                place,
+                b": a byte that is no digit",
+            );
             true
         }
     }

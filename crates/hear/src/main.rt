@@ -19,15 +19,25 @@ pub struct Put {
     pub case: Case,
 }
 
-fn put_name(line: &mut [u8], at: usize, word: u8) -> usize {
+// The last character of a control signal's name; 0 for another word.
+fn control(word: u8) -> u8 {
     if word == signals::CS1 {
-        return numbers::put_all(line, at, b"CS1");
+        return b'1';
     }
     if word == signals::CS2 {
-        return numbers::put_all(line, at, b"CS2");
+        return b'2';
     }
     if word == signals::CS3 {
-        return numbers::put_all(line, at, b"CS3");
+        return b'3';
+    }
+    0
+}
+
+fn put_name(line: &mut [u8], at: usize, word: u8) -> usize {
+    let last = control(word);
+    if last != 0 {
+        let to = numbers::put_all(line, at, b"CS");
+        return numbers::put(line, to, last);
     }
     if word == signals::RQ {
         return numbers::put_all(line, at, b"RQ");
@@ -112,9 +122,10 @@ fn put_printed(line: &mut [u8], at: usize, printed: Words, case: Case) -> Put {
     }
 }
 
-// What a line has behind the step's number.
-fn put_rest(line: &mut [u8], sent: Words, printed: Words, case: Case) -> Put {
-    let mut at = numbers::put(line, 0, 32);
+// A step's line.
+fn put_step(line: &mut [u8], step: u64, sent: Words, printed: Words, case: Case) -> Put {
+    let mut at = filters::put_decimal(line, 0, step);
+    at = numbers::put(line, at, 32);
     at = put_sent(line, at, sent);
     at = numbers::put(line, at, 32);
     let put = put_printed(line, at, printed, case);
@@ -134,15 +145,13 @@ fn heard(before: Hearing, output: &mut [u8], burst: Words, step: u64) -> Hearing
     let after = reply.station;
     let sent = reply.sent;
     let printed = reply.printed;
-    let mut line = [0u8; 32];
-    let put = put_rest(&mut line, sent, printed, case);
+    let mut line = [0u8; 64];
+    let put = put_step(&mut line, step, sent, printed, case);
     let ends = put.case;
     Hearing {
         slave: after,
         case: ends,
-        stream: stream
-            .put_decimal(output, step)
-            .put_line(output, &line, put.at),
+        stream: stream.put_line(output, &line, put.at),
     }
 }
 
@@ -152,7 +161,7 @@ fn turn(before: Hearing, input: &mut [u8], output: &mut [u8], step: u64) -> Hear
     let case = before.case;
     let stream = before.stream;
     let mut burst = [0u8; 3];
-    let read = stream.record(input, output, &mut burst);
+    let read = stream.record(input, output, &mut burst, 3);
     let after = read.stream;
     let hearing = Hearing {
         slave,
@@ -179,7 +188,7 @@ fn main() {
     let mut step: u64 = 0;
     while step < u64::MAX {
         let stream = hearing.stream;
-        if stream.over {
+        if stream.state != filters::GOING {
             stream.finish(&output, b"hear");
             return;
         }

@@ -7,7 +7,7 @@ use lib.Dec.{eqb, leb, ltb}
 use lib.ListN.{length}
 use Rattle.laws.specs.Choice.{if_then_else_}
 
--- "any white space (32, 9, 13, 10) between them"
+-- "white space (any of the bytes 32, 9, 13, 10, and no other) between them"
 unfoldable pub isWhite : ℕ → Bool
 isWhite b = eqb b 32 || (eqb b 9 || (eqb b 13 || eqb b 10))
 
@@ -47,8 +47,8 @@ valueOf [] = 0
 valueOf (d ∷ ds) = (d - 48) * 10 ^ length ds + valueOf ds
 
 -- A run is a number, or it is none for one of two reasons.
---     over      "the digits of the number have come to more than 255"
---     noDigit   "so it has, and its digits before that byte come to 255 or less"
+--     over      "its digits, up to the first byte that is none, come to more than 255"
+--     noDigit   "it has one, and its digits before the first such come to 255 or less"
 -- Leading zeros come to nothing, so that there may be any number of them.
 pub data Judged : Type 0 where
   number : (value : ℕ) → Judged

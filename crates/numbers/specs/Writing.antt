@@ -22,7 +22,7 @@ decimal n =
     else if ltb n 100 then (48 + n / 10) ∷ (48 + n % 10) ∷ []
     else (48 + n / 100) ∷ (48 + n / 10 % 10) ∷ (48 + n % 10) ∷ []
 
--- two hexadecimal digits, with capitals: 65 is A
+-- two hexadecimal digits, with capitals: 55 + 10 is 65, the letter A
 abbrev pub hexDigit : ℕ → ℕ
 hexDigit n = if ltb n 10 then 48 + n else 55 + n
 
@@ -45,7 +45,7 @@ writtenFrom i (w ∷ ws) = decimal w ++ behind i ws ∷ writtenFrom (i + 1) ws
 abbrev pub written : List ℕ → List ℕ
 written ws = writtenFrom 0 ws
 
--- The same line by line: the words of one line, which are sixteen at most. That what is written is such lines, each full but the last, is
+-- The same line by line: the words of one line, which are sixteen at most. That what is written is such lines, each full but perhaps the last, is
 -- `one-line` and `line-by-line` (proofs/LineLaws.antt).
 unfoldable pub spaced : List ℕ → List ℕ
 spaced [] = []

@@ -1,8 +1,9 @@
 // A fresh receiver of mode B hears the words that standard input lists as numbers, and writes what it prints (docs/FORMATS.md).
-use filters::Number;
 use filters::Stream;
 use mode_b::Received;
 use mode_b::Receiver;
+use numbers::Event;
+use numbers::Reader;
 
 fn print(stream: Stream, output: &mut [u8], printed: u8) -> Stream {
     if printed == 0 {
@@ -12,9 +13,9 @@ fn print(stream: Stream, output: &mut [u8], printed: u8) -> Stream {
 }
 
 // The line ended and written, and what is wrong told.
-fn stop(stream: Stream, output: &mut [u8], number: Number) {
-    if stream.end_line(output).finished(output, b"receive") {
-        filters::tell_number(b"receive", number);
+fn stop(stream: Stream, output: &mut [u8], event: Event) {
+    if stream.end_line(output).finish(output, b"receive") {
+        filters::tell_number(b"receive", event);
     }
 }
 
@@ -25,14 +26,16 @@ fn main() {
     let mut input = [0u8; 4096];
     let mut output = [0u8; 4096];
     let mut stream = Stream::new();
+    let mut reader = Reader::new();
     let mut receiver = Receiver::fresh();
     let mut turns = u64::MAX;
     while turns > 0 {
-        let got = stream.number(&mut input, &output);
+        let got = stream.number(reader, &mut input, &output);
+        let event = got.event;
         stream = got.stream;
-        let number = got.number;
-        match number {
-            Number::Word(word) => {
+        reader = got.reader;
+        match event {
+            Event::Word(word) => {
                 let received = receiving::receive(receiver, word);
                 match received {
                     Received::Done(heard) => {
@@ -41,13 +44,13 @@ fn main() {
                     }
                     // not reached: a receiver that has answered is sound
                     Received::BadReceiver(_) => {
-                        stop(stream, &mut output, Number::End);
+                        stop(stream, &mut output, Event::Nothing);
                         return;
                     }
                 }
             }
-            Number::End | Number::Over(_) | Number::NoDigit(_) => {
-                stop(stream, &mut output, number);
+            Event::Nothing | Event::Over(_) | Event::NoDigit(_) => {
+                stop(stream, &mut output, event);
                 return;
             }
         }

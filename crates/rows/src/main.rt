@@ -172,7 +172,7 @@ fn put_heard(stream: Stream, output: &mut [u8], burst: &[u8; 3]) -> Stream {
 // The next burst read, and its kind. A short last one is ignored.
 fn turn(stream: Stream, input: &mut [u8], output: &mut [u8]) -> Stream {
     let mut burst = [0u8; 3];
-    let read = stream.record(input, output, &mut burst);
+    let read = stream.record(input, output, &mut burst, 3);
     let after = read.stream;
     if read.count != 3 {
         return after;
@@ -189,7 +189,7 @@ fn main() {
     let mut stream = put_table(Stream::new(), &mut output);
     let mut turns = u64::MAX;
     while turns > 0 {
-        if stream.over {
+        if stream.state != filters::GOING {
             stream.finish(&output, b"rows");
             return;
         }

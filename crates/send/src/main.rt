@@ -60,8 +60,8 @@ fn main() {
     let read = Stream::new().numbers(&mut input, &output, &mut words);
     let count = read.count;
     let stream = read.stream;
-    let number = read.number;
-    if filters::tell_number(b"send", number) {
+    let event = read.event;
+    if filters::tell_number(b"send", event) {
         return;
     }
     if stream.failed(b"send") {

@@ -152,33 +152,31 @@ fn put_reply(line: &mut [u8], reply: Reply) -> usize {
     at = numbers::put_all(line, at, b" |");
     at = put_words(line, at, printed);
     at = numbers::put_all(line, at, b" |");
-    at = fields::put_flag(line, at, reply.taken);
-    numbers::put(line, at, 10)
+    fields::put_flag(line, at, reply.taken)
 }
 
-fn put_answer(stream: Stream, output: &mut [u8], stepped: Stepped) -> Stream {
+fn put_answer(line: &mut [u8], stepped: Stepped) -> usize {
     match stepped {
-        Stepped::Done(reply) => {
-            // no line comes to be full
-            let mut line = [0u8; 96];
-            let count = put_reply(&mut line, reply);
-            stream.put_line(output, &line, count)
-        }
-        Stepped::BadStation(_) => stream.put_refusal(output, 4, 0).put(output, 10),
-        Stepped::BadWord(index, _) => stream.put_refusal(output, 3, index as u64).put(output, 10),
+        Stepped::Done(reply) => put_reply(line, reply),
+        Stepped::BadStation(_) => filters::put_refusal(line, 0, 4, 0),
+        Stepped::BadWord(index, _) => filters::put_refusal(line, 0, 3, index as u64),
     }
 }
 
 fn answer(stream: Stream, output: &mut [u8], record: &[u8; 17]) -> Stream {
     let burst = Words(record[10], record[11], record[12]);
     let stepped = station::step(station_of(record), burst, offer_of(record));
-    put_answer(stream, output, stepped)
+    // no line comes to be full
+    let mut line = [0u8; 96];
+    let mut at = put_answer(&mut line, stepped);
+    at = numbers::put(&mut line, at, 10);
+    stream.put_line(output, &line, at)
 }
 
 // The next record read and answered. A short last one is ignored.
 fn turn(stream: Stream, input: &mut [u8], output: &mut [u8]) -> Stream {
     let mut record = [0u8; 17];
-    let read = stream.record(input, output, &mut record);
+    let read = stream.record(input, output, &mut record, 17);
     let after = read.stream;
     if read.count != 17 {
         return after;
@@ -195,7 +193,7 @@ fn main() {
     let mut stream = Stream::new();
     let mut turns = u64::MAX;
     while turns > 0 {
-        if stream.over {
+        if stream.state != filters::GOING {
             stream.finish(&output, b"steps");
             return;
         }

@@ -9,9 +9,9 @@ pub main-spec : {M : Type 1} → statement M
 main-spec =
     tie.close
     (tie.spec
-    (λ input₀ output₀ stream₀ receiver₀ turns₀ input output stream receiver turns. (length input ≡ 4096) × (length output ≡ 4096))
-    (λ input₀ output₀ stream₀ receiver₀ turns₀ input output stream receiver turns. turns)
+    (λ input₀ output₀ stream₀ reader₀ receiver₀ turns₀ input output stream reader receiver turns. (length input ≡ 4096) × (length output ≡ 4096))
+    (λ input₀ output₀ stream₀ reader₀ receiver₀ turns₀ input output stream reader receiver turns. turns)
     (search needs) (search needs) (search needs) (search needs) (search needs) (search needs) (search needs) (search needs)
     (search needs) (search needs) (search needs) (search needs) (search needs) (search needs) (search needs) (search needs)
     (search needs) (search needs) (search needs) (search needs) (search needs) (search needs) (search needs) (search needs)
-    (search needs))
+    (search needs) (search needs))

@@ -9,7 +9,7 @@ pub number-spec : {M : Type 1} → statement M
 number-spec =
     tie.close
     (tie.spec
-    (λ input₀ output stream₀ turns₀ input stream turns. length input ≡ length input₀)
-    (λ input₀ output stream₀ turns₀ input stream turns. turns)
+    (λ input₀ output stream₀ reader₀ turns₀ input stream reader turns. length input ≡ length input₀)
+    (λ input₀ output stream₀ reader₀ turns₀ input stream reader turns. turns)
     (search needs) (search needs) (search needs) (search needs) (search needs) (search needs) (search needs) (search needs)
-    (search needs) (search needs) (search needs) (search needs) (search needs) (search needs) (search needs))
+    (search needs) (search needs) (search needs) (search needs) (search needs) (search needs) (search needs) (search needs))

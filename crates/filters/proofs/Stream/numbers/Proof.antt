@@ -12,10 +12,9 @@ pub numbers-spec : {M : Type 1} → statement M
 numbers-spec =
     tie.close
     (tie.spec
-    (λ input₀ output room₀ stream₀ count₀ input room stream count. (length input ≡ length input₀) × (length room ≡ length room₀) × (count ≤ length room₀))
-    (λ input₀ output room₀ stream₀ count₀ input room stream count. length room₀ - count)
-    (search needs) (search needs) (search needs)
-    (search needs) (search needs) (search needs)
+    (λ input₀ output room₀ stream₀ reader₀ count₀ input room stream reader count. (length input ≡ length input₀) × (length room ≡ length room₀) × (count ≤ length room₀))
+    (λ input₀ output room₀ stream₀ reader₀ count₀ input room stream reader count. length room₀ - count)
+    (search needs) (search needs) (search needs) (search needs) (search needs) (search needs) (search needs)
     (λ c. simp length-set (omega arith))
     (search needs) (search needs)
     (λ c. (search needs, sym (length-take-le _ _ (search needs))))

@@ -1,10 +1,10 @@
--- `Stream::put_hex` is safe and ends. Assumes nothing.
+-- `calls::put_hex` is safe and ends. Assumes nothing.
 use mathlib.Core.Path.{_≡_}
 use Prim.Native.Nat.{_-_, _≤_}
 use lib.ListN.{length}
 use borrow.Author.Needs.{needs}
-use Rattle.filters.proofs.Stream.put_hex.Statement.{statement}
-use Rattle.filters.proofs.Stream.put_hex.Tie as tie
+use Rattle.calls.proofs.put_hex.Statement.{statement}
+use Rattle.calls.proofs.put_hex.Tie as tie
 
 pub put-hex-spec : {M : Type 1} → statement M
 put-hex-spec =

@@ -1,15 +1,15 @@
--- `Stream::read_first` is safe and ends. Assumes nothing.
+-- `Stream::record` is safe and ends. Assumes nothing.
 use mathlib.Core.Path.{_≡_, sym}
 use Prim.Native.Nat.{_-_, _≤_}
 use native.Mathlib.Omega.{arith}
 use lib.ListN.{length, length-set}
 use lib.Seq.{length-take-le}
 use borrow.Author.Needs.{needs}
-use Rattle.filters.proofs.Stream.read_first.Statement.{statement}
-use Rattle.filters.proofs.Stream.read_first.Tie as tie
+use Rattle.filters.proofs.Stream.record.Statement.{statement}
+use Rattle.filters.proofs.Stream.record.Tie as tie
 
-pub read-first-spec : {M : Type 1} → statement M
-read-first-spec =
+pub record-spec : {M : Type 1} → statement M
+record-spec =
     tie.close
     (tie.spec
     (λ input₀ output room₀ most stream₀ count₀ input room stream count. (length input ≡ length input₀) × (length room ≡ length room₀) × (count ≤ length room₀))

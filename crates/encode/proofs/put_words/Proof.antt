@@ -1,10 +1,10 @@
--- `Stream::put_words` is safe and ends. Assumes nothing.
+-- `encode::put_words` is safe and ends. Assumes nothing.
 use mathlib.Core.Path.{_≡_}
 use Prim.Native.Nat.{_-_, _≤_}
 use lib.ListN.{length}
 use borrow.Author.Needs.{needs}
-use Rattle.filters.proofs.Stream.put_words.Statement.{statement}
-use Rattle.filters.proofs.Stream.put_words.Tie as tie
+use Rattle.encode.proofs.put_words.Statement.{statement}
+use Rattle.encode.proofs.put_words.Tie as tie
 
 pub put-words-spec : {M : Type 1} → statement M
 put-words-spec =
