@@ -165,10 +165,10 @@ impl Stream {
 
     // Writes what waits. In a room that is too short for a word it fails, so that no byte is lost untold.
     fn flush(self, output: &[u8]) -> Self {
-        if output.len() < numbers::LONGEST {
-            return self.with_output(0, self.column, UNWRITTEN);
+        if numbers::fits_word(output, 0) {
+            return self.write(output, self.waiting);
         }
-        self.write(output, self.waiting)
+        self.with_output(0, self.column, UNWRITTEN)
     }
 
     // Reads the next block, after what waits is written: an empty one where the input is over, a read fails, as it does in an
@@ -336,9 +336,15 @@ impl Stream {
 
     // A word as it is written, sixteen to a line.
     pub fn put_word(self, output: &mut [u8], word: u8) -> Self {
-        let stream = self.with_room(output, numbers::LONGEST);
-        let put = numbers::put_word(output, stream.waiting, stream.column, word);
-        stream.with_output(put.at, put.column, stream.state)
+        if numbers::fits_word(output, self.waiting) {
+            return self.store_word(output, word);
+        }
+        self.flush(output).store_word(output, word)
+    }
+
+    fn store_word(self, output: &mut [u8], word: u8) -> Self {
+        let put = numbers::put_word(output, self.waiting, self.column, word);
+        self.with_output(put.at, put.column, self.state)
     }
 
     // Ends the line of words, if one has been begun.

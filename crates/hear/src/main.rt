@@ -171,6 +171,10 @@ fn turn(before: Hearing, input: &mut [u8], output: &mut [u8], step: u64) -> Hear
     if read.count == 0 {
         return hearing;
     }
+    // a burst that a failed read has cut short is none
+    if after.state == filters::UNREAD {
+        return hearing;
+    }
     heard(hearing, output, Words(burst[0], burst[1], burst[2]), step)
 }
 
