@@ -286,17 +286,11 @@ fn length_in(kind: u8, head: &[u8; 10]) -> usize
     }
 }
 
-fn answer(
-    stream: Stream,
-    output: &mut [u8],
-    kind: u8,
-    head: &[u8; 10],
-    list: &[u8],
-    room: &mut [u8],
-) -> Stream {
+fn answer(stream: Stream, output: &mut [u8], kind: u8, head: &[u8; 10], list: &[u8]) -> Stream {
     match kind {
         b'E' | b'P' => {
-            let filled = fill(room, size_in(kind, head));
+            let mut room = [0u8; 8192];
+            let filled = fill(&mut room, size_in(kind, head));
             call(
                 stream,
                 output,
@@ -320,45 +314,31 @@ fn bytes_in(kind: u8, head: &[u8; 10]) -> usize {
     1 + head_length(kind) + length_in(kind, head)
 }
 
-// Reads the list and answers. `list` and `room` are as long as a record may ask.
-fn listed(
-    stream: Stream,
-    input: &mut [u8],
-    output: &mut [u8],
-    kind: u8,
-    head: &[u8; 10],
-    list: &mut [u8],
-    room: &mut [u8],
-) -> Came {
+// Reads the list and answers.
+fn listed(stream: Stream, input: &mut [u8], output: &mut [u8], kind: u8, head: &[u8; 10]) -> Came {
     let length = length_in(kind, head);
-    if room.len() < size_in(kind, head) {
+    if 8192 < size_in(kind, head) {
         return none(stream, End::Room);
     }
-    if list.len() < length {
+    if 8193 < length {
         return none(stream, End::Length);
     }
-    let read = stream.record(input, output, list, length);
+    let mut list = [0u8; 8193];
+    let read = stream.record(input, output, &mut list, length);
     let after = read.stream;
     let count = read.count;
     if count != length {
         return none(after, End::CutShort);
     }
     Came {
-        stream: answer(after, output, kind, head, &list[..count], room),
+        stream: answer(after, output, kind, head, &list[..count]),
         bytes: bytes_in(kind, head),
         end: End::Over,
     }
 }
 
 // Reads what stands before the list, and goes on.
-fn headed(
-    stream: Stream,
-    input: &mut [u8],
-    output: &mut [u8],
-    kind: u8,
-    list: &mut [u8],
-    room: &mut [u8],
-) -> Came {
+fn headed(stream: Stream, input: &mut [u8], output: &mut [u8], kind: u8) -> Came {
     let needed = head_length(kind);
     if needed == 0 {
         return none(stream, End::NoKind);
@@ -369,23 +349,17 @@ fn headed(
     if read.count != needed {
         return none(after, End::CutShort);
     }
-    listed(after, input, output, kind, &head, list, room)
+    listed(after, input, output, kind, &head)
 }
 
-fn record(
-    stream: Stream,
-    input: &mut [u8],
-    output: &mut [u8],
-    list: &mut [u8],
-    room: &mut [u8],
-) -> Came {
+fn record(stream: Stream, input: &mut [u8], output: &mut [u8]) -> Came {
     let mut kind = [0u8; 1];
     let read = stream.record(input, output, &mut kind, 1);
     let after = read.stream;
     if read.count == 0 {
         return none(after, End::Over);
     }
-    headed(after, input, output, kind[0], list, room)
+    headed(after, input, output, kind[0])
 }
 
 // Writes what waits, and tells why there is no record at the place. Where reading or writing has failed, that is told instead.
@@ -420,13 +394,11 @@ fn main() {
     }
     let mut input = [0u8; 4096];
     let mut output = [0u8; 4096];
-    let mut list = [0u8; 8193];
-    let mut room = [0u8; 8192];
     let mut stream = Stream::new();
     let mut place: u64 = 0;
     let mut turns = u64::MAX;
     while turns > 0 {
-        let came = record(stream, &mut input, &mut output, &mut list, &mut room);
+        let came = record(stream, &mut input, &mut output);
         let end = came.end;
         stream = came.stream;
         if came.bytes == 0 {

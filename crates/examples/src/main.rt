@@ -106,12 +106,6 @@ fn put_stepped(line: &mut [u8], at: usize, stepped: Stepped) -> usize {
     }
 }
 
-fn step_line(line: &mut [u8], at: usize, about: &[u8], stepped: Stepped) -> usize {
-    let mut to = numbers::put_all(line, at, about);
-    to = put_stepped(line, to, stepped);
-    numbers::put(line, to, 10)
-}
-
 // A slave that has repeated 31 times.
 fn repeated_31() -> Station {
     Station {
@@ -123,11 +117,16 @@ fn repeated_31() -> Station {
     }
 }
 
+fn step_line(line: &mut [u8], at: usize, about: &[u8], burst: Words) -> usize {
+    let stepped = station::step(repeated_31(), burst, Offer::Nothing);
+    let mut to = numbers::put_all(line, at, about);
+    to = put_stepped(line, to, stepped);
+    numbers::put(line, to, 10)
+}
+
 fn count_31(line: &mut [u8], at: usize) -> usize {
-    let good = station::step(repeated_31(), Words(116, 86, 51), Offer::Nothing);
-    let bad = station::step(repeated_31(), Words(116, 0, 51), Offer::Nothing);
-    let to = step_line(line, at, b"count 31 and a good block: ", good);
-    step_line(line, to, b"count 31 and a bad one: ", bad)
+    let to = step_line(line, at, b"count 31 and a good block: ", Words(116, 86, 51));
+    step_line(line, to, b"count 31 and a bad one: ", Words(116, 0, 51))
 }
 
 fn put_slots(line: &mut [u8], at: usize, slots: usize) -> usize {

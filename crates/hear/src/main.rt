@@ -137,10 +137,14 @@ fn put_step(line: &mut [u8], step: u64, sent: Words, printed: Words, case: Case)
 }
 
 // One step, and its line. No fresh slave without offers comes to a refusal.
-fn heard(before: Hearing, output: &mut [u8], burst: Words, step: u64) -> Hearing {
-    let slave = before.slave;
-    let case = before.case;
-    let stream = before.stream;
+fn heard(
+    slave: Station,
+    case: Case,
+    stream: Stream,
+    output: &mut [u8],
+    burst: Words,
+    step: u64,
+) -> Hearing {
     let reply = fields::reply_of(station::step(slave, burst, Offer::Nothing));
     let after = reply.station;
     let sent = reply.sent;
@@ -163,19 +167,22 @@ fn turn(before: Hearing, input: &mut [u8], output: &mut [u8], step: u64) -> Hear
     let mut burst = [0u8; 3];
     let read = stream.record(input, output, &mut burst, 3);
     let after = read.stream;
-    let hearing = Hearing {
+    // a burst that a failed read has cut short is none
+    if read.count == 0 || after.state == filters::UNREAD {
+        return Hearing {
+            slave,
+            case,
+            stream: after,
+        };
+    }
+    heard(
         slave,
         case,
-        stream: after,
-    };
-    if read.count == 0 {
-        return hearing;
-    }
-    // a burst that a failed read has cut short is none
-    if after.state == filters::UNREAD {
-        return hearing;
-    }
-    heard(hearing, output, Words(burst[0], burst[1], burst[2]), step)
+        after,
+        output,
+        Words(burst[0], burst[1], burst[2]),
+        step,
+    )
 }
 
 fn main() {

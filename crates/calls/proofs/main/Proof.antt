@@ -9,9 +9,7 @@ pub main-spec : {M : Type 1} → statement M
 main-spec =
     tie.close
     (tie.spec
-    (λ input₀ output₀ list₀ room₀ stream₀ place₀ turns₀ input output list room stream place turns. (length input ≡ 4096) × ((length output ≡ 4096) × ((length list ≡ 8193) × (length room ≡ 8192))))
-    (λ input₀ output₀ list₀ room₀ stream₀ place₀ turns₀ input output list room stream place turns. turns)
-    (search needs) (search needs) (search needs) (search needs) (search needs)
-    (search needs) (search needs) (search needs) (search needs) (search needs)
-    (search needs) (search needs) (search needs) (search needs) (search needs)
-    (search needs) (search needs) (search needs))
+    (λ input₀ output₀ stream₀ place₀ turns₀ input output stream place turns. (length input ≡ 4096) × (length output ≡ 4096))
+    (λ input₀ output₀ stream₀ place₀ turns₀ input output stream place turns. turns)
+    (search needs) (search needs) (search needs) (search needs) (search needs) (search needs) (search needs) (search needs)
+    (search needs) (search needs) (search needs) (search needs) (search needs) (search needs) (search needs) (search needs))
