@@ -689,35 +689,39 @@ fn run_receive(times: u64) -> u64 {
     receive_often(times, &stream[..slots])
 }
 
-fn run(asked: Asked) -> u64 {
-    let call = asked.call;
-    match call {
-        1 => run_meaning(asked.times),
-        2 => run_encode(asked.times, asked.length),
-        3 => run_print(asked.times, asked.length),
-        4 => run_step(asked.times),
-        5 => run_slot(asked.times, asked.length),
-        _ => run_receive(asked.times),
-    }
-}
-
-fn put_name(line: &mut [u8], call: u64) -> usize {
-    match call {
-        1 => numbers::put_all(line, 0, b"meaning "),
-        2 => numbers::put_all(line, 0, b"encode "),
-        3 => numbers::put_all(line, 0, b"print "),
-        4 => numbers::put_all(line, 0, b"step "),
-        5 => numbers::put_all(line, 0, b"slot "),
-        _ => numbers::put_all(line, 0, b"receive "),
-    }
-}
-
-fn answer(stream: Stream, output: &mut [u8], asked: Asked) {
+fn answer(stream: Stream, output: &mut [u8], name: &[u8], sum: u64) {
     let mut line = [0u8; 32];
-    let mut at = put_name(&mut line, asked.call);
-    at = filters::put_decimal(&mut line, at, run(asked));
+    let mut at = numbers::put_all(&mut line, 0, name);
+    at = filters::put_decimal(&mut line, at, sum);
     at = numbers::put(&mut line, at, 10);
     stream.put_line(output, &line, at).finish(output, b"bench");
+}
+
+fn run(stream: Stream, output: &mut [u8], asked: Asked) {
+    let call = asked.call;
+    match call {
+        1 => answer(stream, output, b"meaning ", run_meaning(asked.times)),
+        2 => answer(
+            stream,
+            output,
+            b"encode ",
+            run_encode(asked.times, asked.length),
+        ),
+        3 => answer(
+            stream,
+            output,
+            b"print ",
+            run_print(asked.times, asked.length),
+        ),
+        4 => answer(stream, output, b"step ", run_step(asked.times)),
+        5 => answer(
+            stream,
+            output,
+            b"slot ",
+            run_slot(asked.times, asked.length),
+        ),
+        _ => answer(stream, output, b"receive ", run_receive(asked.times)),
+    }
 }
 
 fn main() {
@@ -737,7 +741,7 @@ fn main() {
     let asked = asked_in(&line);
     if asked.call != 0 {
         if count < 64 {
-            answer(stream, &mut output, asked);
+            run(stream, &mut output, asked);
             return;
         }
     }
