@@ -964,12 +964,14 @@ import os, sys
 sys.path.insert(0, sys.argv[1])
 import programs
 data, done, more = b"", 0, b"x"
-while more:
-    more = os.read(0, 4096)
-    data += more
+while True:
     output = programs.hear(data[:len(data) // 3 * 3] if more else data)[0]
     os.write(1, output[done:])
     done = len(output)
+    if not more:
+        break
+    more = os.read(0, 4096)
+    data += more
 """
 
 
