@@ -67,7 +67,8 @@ fault("encoding 4,096 characters is refused", "encode, calls E", "text",
       "if len(characters) > MOST_CHARACTERS:", "if len(characters) >= MOST_CHARACTERS:")
 fault("encoding refuses 1 before 5", "encode, calls E", "text",
       "if len(characters) > MOST_CHARACTERS:",
-      "if len(characters) > MOST_CHARACTERS and set(characters) <= set(SIGNAL_OF):")
+      "if len(characters) > MOST_CHARACTERS and all(\n"
+      "            raised(character) in SIGNAL_OF for character in characters):")
 fault("encoding: room as long as needed is refused", "calls E", "text",
       "if len(signals) > len(room):", "if len(signals) >= len(room) > 0:")
 fault("encoding: refusal 2 writes what fits", "calls E", "text",
@@ -84,10 +85,6 @@ fault("encoding starts in letters, whatever case is given", "calls E", "text",
 fault("encoding: space needs letters case", "encode, calls E", "text",
       "            table[ord(letter)] = (None, word)",
       "            table[ord(letter)] = (\"letters\" if letter == \" \" else None, word)")
-fault("encoding: small letters are taken as capitals", "encode, calls E", "text",
-      "SIGNAL_OF = signals_of_characters()",
-      "SIGNAL_OF = signals_of_characters()\n"
-      "SIGNAL_OF[97] = SIGNAL_OF[65]")
 fault("F, G, H in figures print nothing", "print, calls P, hear", "text",
       "return 35, \"figures\"", "return None, \"figures\"")
 fault("the error mark leads back to letters", "print, calls P", "text",
@@ -118,6 +115,115 @@ fault("printing answers the case it started in", "calls P", "text",
       "        byte, case = RULE[case](word)",
       "    printed = []\n    now = case\n    for word in signals:\n"
       "        byte, now = RULE[now](word)")
+
+# --- Text: small letters (02, T-01) ---
+
+# Of `raised`: the test for a small letter, and what becomes of any other byte.
+IS_SMALL = "    if ord(\"a\") <= character <= ord(\"z\"):\n"
+AS_IT_IS = "    return character\n"
+
+fault("encoding: small letters are refused", "encode, calls E", "text",
+      IS_SMALL, "    if False:\n")
+fault("encoding: a is refused", "encode, calls E", "text",
+      IS_SMALL, "    if ord(\"a\") < character <= ord(\"z\"):\n")
+fault("encoding: z is refused", "encode, calls E", "text",
+      IS_SMALL, "    if ord(\"a\") <= character < ord(\"z\"):\n")
+fault("encoding: small letters are refused where it starts in figures", "calls E",
+      "text", "if raised(character) not in SIGNAL_OF:",
+      "if (raised(character) if case == \"letters\" else character) not in SIGNAL_OF:")
+fault("encoding: a small letter behind a figure is refused",
+      "encode, calls E", "text",
+      "if raised(character) not in SIGNAL_OF:",
+      "if raised(character) not in SIGNAL_OF or raised(character) != character and (\n"
+      "                index > 0 and 48 <= characters[index - 1] <= 57):")
+fault("encoding: a small letter at the end of 4,096 characters is refused",
+      "encode, calls E", "text", "if raised(character) not in SIGNAL_OF:",
+      "if (raised(character) if index < MOST_CHARACTERS - 1 else character\n"
+      "                ) not in SIGNAL_OF:")
+fault("encoding: a small letter is the capital behind its own",
+      "encode, calls E", "text",
+      "return character - ord(\"a\") + ord(\"A\")",
+      "return (character - ord(\"a\") + 1) % 26 + ord(\"A\")")
+# 96 and 123 less 32 have no signal either: a bound that is one too wide changes
+# nothing by itself.
+fault("encoding: 96 is taken, as an apostrophe", "encode, calls E", "text",
+      IS_SMALL, "    if character == 96:\n        return 39\n" + IS_SMALL)
+fault("encoding: 123 is taken, as the signal behind that of Z",
+      "encode, calls E", "text",
+      IS_SMALL, "    if character == 123:\n        return 13\n" + IS_SMALL)
+fault("encoding: 91 is taken, as the signal behind that of Z",
+      "encode, calls E", "text",
+      IS_SMALL, "    if character == 91:\n        return 13\n" + IS_SMALL)
+fault("encoding: 64 is taken, as A", "encode, calls E", "text",
+      IS_SMALL, "    if character == 64:\n        return 65\n" + IS_SMALL)
+fault("encoding: bytes over 127 are taken by their low seven bits",
+      "encode, calls E", "text",
+      AS_IT_IS,
+      "    return raised(character - 128) if character > 127 else character\n")
+fault("encoding: bit 7 of a small letter is not looked at", "encode, calls E", "text",
+      IS_SMALL, "    if ord(\"a\") <= character - 128 <= ord(\"z\"):\n"
+      "        character = character - 128\n" + IS_SMALL)
+fault("encoding: bit 7 of a capital is not looked at", "encode, calls E", "text",
+      AS_IT_IS, "    if ord(\"A\") <= character - 128 <= ord(\"Z\"):\n"
+      "        return character - 128\n" + AS_IT_IS)
+fault("encoding: 64 is taken off a byte over 127", "encode, calls E", "text",
+      AS_IT_IS, "    return raised(character - 64) if character > 127 else character\n")
+fault("encoding: 32 is taken off a byte over 127", "encode, calls E", "text",
+      AS_IT_IS, "    return raised(character - 32) if character > 127 else character\n")
+fault("encoding: 1 to 26 are taken as letters", "encode, calls E", "text",
+      AS_IT_IS, "    if 0 < character < 27 and character not in SIGNAL_OF:\n"
+      "        return character + 64\n" + AS_IT_IS)
+fault("encoding: bit 5 of every byte is cleared", "encode, calls E", "text",
+      IS_SMALL, "    character = character & 223\n" + IS_SMALL)
+fault("encoding: 246 is taken, as O", "encode, calls E", "text",
+      AS_IT_IS, "    return ord(\"O\") if character == 246 else character\n")
+fault("encoding: 195 and 182 are taken, as O and a space", "encode, calls E", "text",
+      AS_IT_IS, "    return {195: ord(\"O\"), 182: 32}.get(character, character)\n")
+fault("encoding: the index of refusal 1 leaves out small letters",
+      "encode, calls E", "text",
+      "return Refused(1, index)",
+      "return Refused(1, sum(raised(one) == one for one in characters[:index]))")
+fault("encoding: the index of refusal 1 counts small letters alone",
+      "encode, calls E", "text",
+      "return Refused(1, index)",
+      "return Refused(1, sum(raised(one) != one for one in characters[:index]))")
+fault("encoding: the limit counts no small letters", "encode, calls E", "text",
+      "if len(characters) > MOST_CHARACTERS:",
+      "if sum(raised(one) == one for one in characters) > MOST_CHARACTERS:")
+fault("encoding: small letters over the limit are refused 1",
+      "encode, calls E", "text",
+      "if len(characters) > MOST_CHARACTERS:",
+      "for index, character in enumerate(characters[:MOST_CHARACTERS + 1]):\n"
+      "        if len(characters) > MOST_CHARACTERS and raised(character) != character:\n"
+      "            return Refused(1, index)\n"
+      "    if len(characters) > MOST_CHARACTERS:")
+
+RAISED_SIGNAL = "        needed, word = SIGNAL_OF[raised(character)]\n"
+IF_IT_WAS_SMALL = RAISED_SIGNAL + "        if raised(character) != character:\n"
+
+fault("encoding: a small letter needs no shift", "encode, calls E", "text",
+      RAISED_SIGNAL, IF_IT_WAS_SMALL + "            needed = None\n")
+fault("encoding: a small letter leads to letters without a shift",
+      "encode, calls E", "text",
+      RAISED_SIGNAL, IF_IT_WAS_SMALL + "            case = needed\n")
+fault("encoding: a small letter is sent as its figure", "encode, calls E", "text",
+      RAISED_SIGNAL, IF_IT_WAS_SMALL + "            needed = \"figures\"\n")
+fault("encoding: each small letter has a shift", "encode, calls E", "text",
+      RAISED_SIGNAL, IF_IT_WAS_SMALL + "            case = None\n")
+fault("encoding: the shift before a small letter does not last",
+      "encode, calls E", "text",
+      "            case = needed\n        signals.append(word)",
+      "            case = needed if raised(character) == character else case\n"
+      "        signals.append(word)")
+fault("encoding: refusal 2 tells a room without the small letters", "calls E", "text",
+      "return Refused(2, len(signals))",
+      "return Refused(2, len(signals) - sum(\n"
+      "            raised(one) != one for one in characters))")
+fault("encoding: the room for small letters is not asked for", "calls E", "text",
+      "if len(signals) > len(room):",
+      "if len(signals) - sum(raised(one) != one for one in characters) > len(room):")
+fault("letters are printed small", "print, calls P, hear", "text",
+      "return ord(letter), \"letters\"", "return ord(letter.lower()), \"letters\"")
 
 # --- The station: refusals ---
 

@@ -38,8 +38,25 @@ MUTILATED = [word for word in WORDS if MEANING[word] == 0]
 TRAFFIC = [word for word in WORDS if is_traffic(word)]
 IN_BLOCK = TRAFFIC + [BETA]
 NOT_IN_BLOCK = [word for word in WORDS if word not in IN_BLOCK]
-CHARACTERS = sorted(text.SIGNAL_OF)
-NO_CHARACTERS = [byte for byte in WORDS if byte not in text.SIGNAL_OF]
+CAPITALS = b"ABCDEFGHIJKLMNOPQRSTUVWXYZ"
+SMALL = b"abcdefghijklmnopqrstuvwxyz"
+# The bytes that encoding takes (01, "Text"; 02, T-01), and those it refuses.
+CHARACTERS = sorted(text.SIGNAL_OF) + list(SMALL)
+NO_CHARACTERS = [byte for byte in WORDS if byte not in CHARACTERS]
+
+# Bytes that a wrong rule may take for letters.  Beside the capitals and the small
+# letters:
+NO_LETTERS = [64, 91, 96, 123]
+# Less 32, 64 or 128 the first or the last of the capitals or small letters; 64
+# less than the first or the last capital:
+NO_LETTERS += [129, 154, 161, 186, 193, 218, 225, 250, 1, 26]
+# Letters with a mark in Latin-1, and the ends of what is over 127:
+NO_LETTERS += [214, 246, 223, 128, 255]
+# Texts with a letter that has a mark: in Latin-1, in UTF-8, in UTF-8 with the mark
+# behind the letter, and in a code of seven bits in which it is 124; and one that
+# begins with the mark by which UTF-8 is told.
+MARKED = [b"Alles sch\xf6n", b"Alles sch\xc3\xb6n", b"Alles scho\xcc\x88n",
+          b"Alles sch|n", b"\xef\xbb\xbfAlles nun"]
 
 # Words that a rule names, and one mutilated word of each sort.
 NAMED = [CS1, CS2, CS3, RQ, ALPHA, BETA, FIGURES, LETTERS, PLUS, QUERY,
@@ -97,14 +114,20 @@ def made_up(size, small):
 
 # --- Texts ---
 
+def spelt(draw):
+    """A word in capitals, in small letters, or with one capital before them."""
+    first, rest = draw.choice(((CAPITALS, CAPITALS), (SMALL, SMALL),
+                               (CAPITALS, SMALL)))
+    return [draw.choice(first)] + draw.choices(rest, k=draw.randrange(8))
+
+
 def letter(draw, length):
     """A text an operator might write."""
     out = []
     while len(out) < length:
         kind = draw.random()
         if kind < 0.7:
-            out.extend(draw.choice(b"ABCDEFGHIJKLMNOPQRSTUVWXYZ")
-                       for _ in range(draw.randint(1, 8)))
+            out.extend(spelt(draw))
             out.append(32)
         elif kind < 0.85:
             out.extend(draw.choice(b"0123456789")
@@ -118,12 +141,27 @@ def letter(draw, length):
 
 
 def characters(draw, length):
-    """Any characters that have signals."""
+    """Any characters that encoding takes, small letters a third of them."""
     return bytes(draw.choices(CHARACTERS, k=length))
 
 
 def with_byte(data, index, byte):
     return data[:index] + bytes([byte]) + data[index + 1:]
+
+
+def small_letters(draw, length):
+    return bytes(draw.choices(SMALL, k=length))
+
+
+def among_small(draw, middle):
+    """With small letters before it and behind it, at least one each."""
+    return (small_letters(draw, draw.randint(1, 9)) + middle
+            + small_letters(draw, draw.randint(1, 9)))
+
+
+def each_small(before, behind):
+    """Each small letter between the two."""
+    return b"".join(before + bytes([byte]) + behind for byte in SMALL)
 
 
 # --- Numbers written in various ways ---
@@ -218,6 +256,7 @@ def encode_cases(draw):
            quickly("1 2", b"1 2"),
            quickly("all characters", bytes(CHARACTERS)),
            quickly("characters and a small letter", b"AB1a"),
+           quickly("characters and a byte without a signal", b"AB1{"),
            slowly("a letter", letter(draw, 120)),
            slowly("a refused letter", letter(draw, 60) + b"#" + letter(draw, 60)),
            in_pieces("a letter", letter(draw, 3000))]
@@ -234,6 +273,7 @@ def encode_cases(draw):
         out.append(quickly("letter of %d" % length, letter(draw, length)))
         out.append(quickly("characters, %d" % length, characters(draw, length)))
     out.append(quickly("most shifts", b"1A" * 2048))
+    out.extend(small_letter_cases(draw))
     for length in (4097, 4098, 8192, 8193, 70000):
         out.append(quickly("over the limit, %d" % length, characters(draw, length)))
     for index in (0, 1, 4094, 4095):
@@ -241,8 +281,8 @@ def encode_cases(draw):
         out.append(quickly("4,096 with a bad byte at %d" % index, bad))
         out.append(quickly("the same, one longer", bad + b"A"))
     out.append(quickly("bad byte beyond the limit",
-                       characters(draw, 4096) + b"a" + characters(draw, 100)))
-    while len(out) < 110:
+                       characters(draw, 4096) + b"{" + characters(draw, 100)))
+    while len(out) < 150:
         length = draw.choice((draw.randrange(40), draw.randrange(400),
                               draw.randrange(4097)))
         kind = draw.randrange(5)
@@ -256,8 +296,34 @@ def encode_cases(draw):
         elif kind == 3:
             data = bytes(draw.choices(WORDS, k=length))
         else:
-            data = bytes(draw.choices(b"A1 \r\n", k=length))
+            data = bytes(draw.choices(b"Aa1 \r\n", k=length))
         out.append(quickly("text of %d" % length, data))
+    return out
+
+
+def small_letter_cases(draw):
+    """Paper 02, T-01."""
+    out = [quickly("a", b"a"),
+           quickly("small letters", SMALL),
+           quickly("small letters in figures", b"1" + SMALL),
+           quickly("each small letter behind a figure", each_small(b"1", b"")),
+           quickly("each small letter behind its capital",
+                   b"".join(bytes(pair) for pair in zip(CAPITALS, SMALL))),
+           quickly("small letters and what needs no case",
+                   each_small(b" ", b"\r\n") + b"1" + each_small(b" ", b"\r\n")),
+           slowly("small letters", small_letters(draw, 60) + b" 12 "
+                  + small_letters(draw, 60)),
+           quickly("4,096 small letters", small_letters(draw, 4096)),
+           quickly("4,097 small letters", small_letters(draw, 4097)),
+           quickly("4,096 capitals and a small letter", b"A" * 4096 + b"a"),
+           quickly("most shifts, small letters", b"1a" * 2048),
+           quickly("4,095 small letters and a bad byte",
+                   small_letters(draw, 4095) + b"{")]
+    for byte in NO_LETTERS:
+        out.append(quickly("byte %d among small letters" % byte,
+                           among_small(draw, bytes([byte]))))
+    for data in MARKED:
+        out.append(quickly("a mark, %r" % data, data))
     return out
 
 
@@ -1100,6 +1166,32 @@ def encode_records(draw):
         # The most room that encoding ever needs.
         body = (b"1A" if sort % 2 == 0 else b"A1") * 2048
         yield with_room(draw, b"E", text.encode, body, sort)
+    yield from small_letter_records(draw)
+
+
+def small_letter_records(draw):
+    """Paper 02, T-01."""
+    # Each small letter in each case in force, alone and beside a figure, with
+    # room as needed and one less.
+    for byte in SMALL:
+        for case in (0, 1):
+            for body in (b"%c", b"%c1", b"1%c", b"1%c1", b" %c"):
+                body = body % byte
+                needed = room_needed(text.encode, case, body)
+                for room in (needed, needed - 1):
+                    yield text_record(b"E", case, room, body)
+    # Each byte that is refused, among small letters.
+    for byte in NO_CHARACTERS:
+        yield with_room(draw, b"E", text.encode, among_small(draw, bytes([byte])))
+    for body in MARKED:
+        yield with_room(draw, b"E", text.encode, body)
+    # Around the limit.
+    for sort in range(6):
+        body = (b"1a" if sort % 2 == 0 else b"a1") * 2048
+        yield with_room(draw, b"E", text.encode, body, sort)
+        yield with_room(draw, b"E", text.encode, small_letters(draw, 4096), sort)
+    yield with_room(draw, b"E", text.encode, small_letters(draw, 4097))
+    yield with_room(draw, b"E", text.encode, small_letters(draw, 4095) + b"{")
 
 
 def print_records(draw):

@@ -129,6 +129,7 @@ def hear(data):
 # --- encode, print, send: one call each ---
 
 def encode(data):
+    """Small letters are taken as the capitals (02, T-01)."""
     characters = data[:text.MOST_CHARACTERS + 1]
     room = bytearray(text.MOST_SIGNALS)
     answer = text.encode("letters", characters, room)
@@ -260,7 +261,8 @@ def low_first(field):
 
 def text_call(call, data, place):
     """An `E` or `P` record from its second byte on: its line and the place
-    behind it."""
+    behind it.  `E` takes small letters as the capitals (02, T-01); the kind
+    itself is `E` alone."""
     head = cut(data, place, 5)
     case = case_of(head[0])
     room_length = low_first(head[1:3])

@@ -12,6 +12,8 @@ from collections import namedtuple
 #   6  mode B: slot past the last                        number of slots
 #   7  over 8,192 signals for mode B or printing         8,192
 #
+# Of 1: a to z are taken as the capitals (02, T-01), so they are not refused.
+#
 # Each call tests for them in 01's order: "encoding 5, 1, 2; printing 7, 3, 2;
 # mode A step 4, 3; mode B slot 7, 3, 6".
 Refused = namedtuple("Refused", "number beside")

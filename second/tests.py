@@ -113,7 +113,8 @@ def encode_examples():
     assert encoded("letters", b"1 2") == ([54, 46, 92, 39], "figures")
     assert encoded("letters", b"") == ([], "letters")
     assert encoded("letters", b"A 1") == ([71, SPACE, FIGURES, 46], "figures")
-    assert encoded("letters", b"a") == Refused(1, 0)
+    # 02, T-01: "its example "a", now 71".
+    assert encoded("letters", b"a") == ([71], "letters")
     assert encoded("letters", b"A1", room=2) == Refused(2, 3)
     assert encoded("letters", b"A" * 4096)[1] == "letters"
     assert encoded("letters", b"A" * 4097) == Refused(5, 4096)
@@ -129,8 +130,8 @@ def encode_corners():
     assert encoded("figures", b"A#") == Refused(1, 1)
     assert encoded("figures", b"*") == Refused(1, 0)
     # 5 before 1 before 2.
-    assert encoded("letters", b"a" * 4097, room=0) == Refused(5, 4096)
-    assert encoded("letters", b"AAa", room=0) == Refused(1, 2)
+    assert encoded("letters", b"{" * 4097, room=0) == Refused(5, 4096)
+    assert encoded("letters", b"AA{", room=0) == Refused(1, 2)
     assert len(text.SIGNAL_OF) == 52
     # The longest answer: a shift before each of 4,096 characters.
     longest, case = encoded("letters", b"1A" * 2048)
@@ -158,18 +159,112 @@ def print_corners():
     assert printed("letters", [A] * 8192) == (b"A" * 8192, "letters")
 
 
+# 01, "Text": the bytes with signals, typed once more.
+HAVE_SIGNALS = b"ABCDEFGHIJKLMNOPQRSTUVWXYZ0123456789-?:().,'=/+\r\n \x05\x07"
+SMALL = b"abcdefghijklmnopqrstuvwxyz"
+TAKEN = HAVE_SIGNALS + SMALL
+
+
+def in_capitals(characters):
+    """02, T-01, without a look at the program: Python raises a to z of bytes and
+    no other."""
+    return bytes(characters).upper()
+
+
 def text_round_trip():
+    """02, T-01: "text read back is the text in capitals"."""
     draw = random.Random(1)
-    characters = sorted(text.SIGNAL_OF)
     for _ in range(2000):
         length = draw.randrange(60)
-        original = bytes(draw.choice(characters) for _ in range(length))
+        original = bytes(draw.choice(TAKEN) for _ in range(length))
         case = draw.choice(("letters", "figures"))
         words, end = encoded(case, original, room=200)
-        assert printed(case, words, room=200) == (original, end)
+        assert printed(case, words, room=200) == (in_capitals(original), end)
+        # What was read back is encoded to the same signals.
+        assert encoded(case, in_capitals(original)) == (words, end)
         # No shift where none is needed: never two in a row, none at the end.
         for first, second in zip(words, words[1:] + [FIGURES]):
             assert not {first, second} <= {LETTERS, FIGURES}
+
+
+def each_byte_alone():
+    taken = 0
+    for byte in range(256):
+        one = bytes([byte])
+        for case in ("letters", "figures"):
+            if byte not in TAKEN:
+                assert encoded(case, one) == Refused(1, 0)
+                assert encoded(case, one, room=0) == Refused(1, 0)
+                continue
+            words, end = encoded(case, one)
+            assert printed(case, words) == (in_capitals(one), end)
+            # A letter of either size needs letters, a figure figures.
+            needed = "letters" if in_capitals(one).isalpha() else "figures"
+            if byte in b"\r\n ":
+                needed = case
+            assert len(words) == 1 + (needed != case) and end == needed
+        taken += byte in TAKEN
+    assert taken == len(set(TAKEN)) == 78
+    # "a to z" are 26; what stands beside them and beside the capitals is not.
+    for byte in b"@[`{":
+        assert encoded("letters", bytes([byte])) == Refused(1, 0)
+
+
+def small_letters_as_capitals():
+    """A text with small letters is answered as the text in capitals: what is
+    written, the end case, the room needed, and each refusal."""
+    b, z = signals.traffic_word(2), signals.traffic_word(26)
+    assert encoded("letters", b"a1b") == ([A, FIGURES, 46, LETTERS, b], "letters")
+    assert encoded("figures", b"z") == ([LETTERS, z], "letters")
+    assert encoded("figures", b"z", room=2) == ([LETTERS, z], "letters")
+    assert encoded("figures", b"z", room=1) == Refused(2, 2)
+    assert encoded("figures", b" a\r1", room=0) == Refused(2, 6)
+    assert encoded("figures", b"aAaA") == ([LETTERS, A, A, A, A], "letters")
+    assert encoded("letters", SMALL) == encoded("letters", HAVE_SIGNALS[:26])
+    draw = random.Random(7)
+    told = {1: 0, 2: 0}
+    for number in range(4000):
+        characters = bytes(draw.choices(TAKEN if number % 2 else SMALL + b"1 ",
+                                        k=draw.randrange(30)))
+        if number % 4 == 0:
+            characters += bytes([draw.randrange(256)]) + b"az"
+        case = draw.choice(("letters", "figures"))
+        whole = encoded(case, characters)
+        assert whole == encoded(case, in_capitals(characters))
+        needed = 5 if isinstance(whole, Refused) else len(whole[0])
+        for room in {0, max(needed - 1, 0), needed, needed + 1}:
+            lent = encoded(case, characters, room)
+            assert lent == encoded(case, in_capitals(characters), room)
+            if isinstance(lent, Refused):
+                told[lent.number] += 1
+            else:
+                assert lent == whole
+    assert told[1] > 1000 and told[2] > 1000
+
+
+def small_letters_and_refusals():
+    # The index is that in the text as it was typed, every character counted.
+    assert encoded("letters", b"ab{") == Refused(1, 2)
+    assert encoded("letters", b"Ab 1c`d{") == Refused(1, 5)
+    assert encoded("figures", b"zzzzzzz\x7fz") == Refused(1, 7)
+    # A letter with a mark, in Latin-1 and in UTF-8, small and capital.
+    for mark in ("\u00f6", "\u00d6", "\u00e9", "\u00df"):
+        for code in ("latin-1", "utf-8"):
+            data = ("sch" + mark + "n").encode(code)
+            assert encoded("letters", data) == Refused(1, 3)
+            for byte in mark.encode(code):
+                assert encoded("letters", bytes([byte])) == Refused(1, 0)
+    # With the mark behind it in UTF-8, o is a letter as any other.
+    assert encoded("letters", "scho\u0308n".encode("utf-8")) == Refused(1, 4)
+    # 5 before 1 before 2.
+    assert encoded("letters", b"a" * 4096) == ([A] * 4096, "letters")
+    assert encoded("letters", b"a" * 4097) == Refused(5, 4096)
+    assert encoded("letters", b"a" * 4096 + b"{", room=0) == Refused(5, 4096)
+    assert encoded("letters", b"a" * 4095 + b"{", room=0) == Refused(1, 4095)
+    assert encoded("letters", b"a" * 4096, room=4095) == Refused(2, 4096)
+    longest, case = encoded("letters", b"1a" * 2048)
+    assert len(longest) == 8192 and case == "letters"
+    assert encoded("letters", b"1a" * 2048, room=8191) == Refused(2, 8192)
 
 
 # --- The station ---
@@ -686,10 +781,14 @@ def words_in_and_out():
     for call in (print_, send):
         assert call(many + b"71 x")[1] == "refused 7 8192: over 8192 signals"
     assert programs.encode(b"A" * 4096)[1] is None
-    assert programs.encode(b"A" * 4096 + b"a")[1] == (
+    assert programs.encode(b"A" * 4096 + b"{")[1] == (
         "refused 5 4096: over 4096 characters")
-    assert programs.encode(b"A" * 4095 + b"a")[1] == (
+    assert programs.encode(b"A" * 4095 + b"{")[1] == (
         "refused 1 4095: the character at index 4095 has no signal")
+    assert programs.encode(b"a" * 4097)[1] == "refused 5 4096: over 4096 characters"
+    assert programs.encode(b"abc{")[1] == (
+        "refused 1 3: the character at index 3 has no signal")
+    assert programs.encode(b"Aa1a") == (b"71 71 54 46 90 71\n", None)
     assert programs.encode(b"A" * 17)[0] == b" ".join([b"71"] * 16) + b"\n71\n"
 
 
@@ -698,7 +797,8 @@ def whole_runs():
     assert programs.run("print", (), b"71") == (b"A", b"", 0)
     assert programs.run("print", (), b"71 3x") == (
         b"", b"print: not a number at 3: a byte that is no digit\n", 1)
-    assert programs.run("encode", (), b"a") == (
+    assert programs.run("encode", (), b"a") == (b"71\n", b"", 0)
+    assert programs.run("encode", (), b"`") == (
         b"", b"encode: refused 1 0: the character at index 0 has no signal\n", 1)
     assert programs.run("calls", (), b"MGE") == (
         b"1 1\n", b"calls: bad record at 2: cut short\n", 1)
@@ -742,7 +842,10 @@ def script_gives_whole_runs():
 
 def letter_through_all():
     letter = b"SHIP'S STORES: 12 (TWELVE) CRATES, 3/4 FULL.\r\nREPLY +?"
-    words, told = programs.encode(letter)
+    typed = b"Ship's stores: 12 (twelve) crates, 3/4 full.\r\nreply +?"
+    words, told = programs.encode(typed)
+    assert programs.encode(letter) == (words, None)
+    assert programs.print_(words) == (letter, None)
     heard, told = programs.send(words)
     prints, told = programs.receive(heard)
     assert programs.print_(prints) == (b"\r\n" + letter, None)
@@ -780,6 +883,12 @@ def calls_records():
     lines = (b"ok 3 figures 47362EAA\nok 0 figures -\nok 2 figures 2D2AAA\n"
              b"refused 2 3 AAAA\nok 86\n")
     assert programs.calls(good) == (lines, None)
+    # Small letters are taken as the capitals; P takes words, and 97 is none.
+    assert programs.calls(
+        record(b"E", 1, 3, b"a") + record(b"E", 1, 1, b"a")
+        + record(b"E", 0, 2, b"a\xe1") + record(b"P", 0, 1, b"a")) == (
+            b"ok 2 letters 5A47AA\nrefused 2 2 AA\nrefused 1 1 AAAA\n"
+            b"refused 3 0 AA\n", None)
 
     def ends(tail, reason):
         told = "bad record at %d: %s" % (len(good), reason)
@@ -1162,6 +1271,50 @@ def inputs_of_receive():
     assert locks_after_an_end > 400 and ends_with_error > 20
 
 
+def inputs_of_small_letters():
+    """02, T-01: for `encode` and for `E` of `calls`."""
+    bodies = {"encode": [(0, None, data) for data in gate_inputs("encode")],
+              "calls": []}
+    for data in gate_inputs("calls"):
+        for first, behind in inputs.call_records(data):
+            if data[first:first + 1] == b"E":
+                room = data[first + 2] + 256 * data[first + 3]
+                bodies["calls"].append((data[first + 1], room,
+                                        data[first + 6:behind]))
+    for name, texts in bodies.items():
+        in_force = set()        # each character taken, with the case before it
+        refused = set()         # the first refused byte behind a small letter
+        long_ones = []          # lengths of texts with many, and the refusal or 0
+        exact = one_short = 0
+        for byte, room, characters in texts:
+            small = sum(one in SMALL for one in characters)
+            if small == 0:
+                continue
+            case = ("letters", "figures")[byte % 2]
+            result = encoded(case, characters)
+            number = result.number if isinstance(result, Refused) else 0
+            if small > 1000:
+                long_ones.append((len(characters), number))
+            if number == 0:
+                exact += room == len(result[0])
+                one_short += room == len(result[0]) - 1
+                for one in characters:
+                    in_force.add((one, case))
+                    if one not in b"\r\n ":
+                        case = "letters" if bytes([one]).isalpha() else "figures"
+            elif number == 1 and set(characters[:result.beside]) & set(SMALL):
+                refused.add(characters[result.beside])
+        assert in_force == {(one, case) for one in TAKEN
+                            for case in ("letters", "figures")}
+        assert refused >= set(b"@[`{") | {129, 154, 161, 186, 193, 195, 214, 218,
+                                          225, 246, 250, 255}
+        for one in ((4096, 0), (4096, 1), (4097, 5)):
+            assert long_ones.count(one) >= 2
+        if name == "calls":
+            assert refused == set(range(256)) - set(TAKEN)
+            assert exact > 500 and one_short > 500
+
+
 # --- The faults: that one which no input tells is a failure ---
 
 def faults_not_told_are_found():
@@ -1188,7 +1341,7 @@ def faults_not_told_are_found():
 def faults_of_all_programs():
     tellers = {teller for one in faults.FAULTS for teller in one.tellers}
     assert tellers == set(COMPARED) | {"calls " + chr(kind) for kind in inputs.KINDS}
-    assert len({one.about for one in faults.FAULTS}) == len(faults.FAULTS) >= 190
+    assert len({one.about for one in faults.FAULTS}) == len(faults.FAULTS) >= 220
     # The modules of the second program are as they were.
     assert faults.programs_with(None) is not programs.run
     assert sys.modules["programs"] is programs
@@ -1197,6 +1350,7 @@ def faults_of_all_programs():
 TESTS = [
     code_examples, code_all_256,
     encode_examples, encode_corners, print_corners, text_round_trip,
+    each_byte_alone, small_letters_as_capitals, small_letters_and_refusals,
     sending_examples, time_out_examples, first_word_only, over_across_blocks,
     over_cancelled, over_offered, opening_and_ending, turning_by_role,
     station_refusals, errors_that_look_right, rows_and_kinds, demand_three,
@@ -1209,7 +1363,8 @@ TESTS = [
     compare_names_all_programs, compare_counts_inputs,
     compare_tells_who_does_not_answer,
     inputs_are_bytes, inputs_at_borders, inputs_tell_each_line,
-    inputs_of_steps, inputs_of_receive, conversations_are_answered,
+    inputs_of_steps, inputs_of_receive, inputs_of_small_letters,
+    conversations_are_answered,
     faults_not_told_are_found, faults_of_all_programs,
 ]
 

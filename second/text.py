@@ -1,8 +1,13 @@
-"""Characters to signals and back (paper 01, "Text").
+"""Characters to signals and back (paper 01, "Text"; small letters: paper 02,
+T-01).
 
 Both calls are given a case to start in and a lent room (a bytearray), and
 answer `Written` or `Refused`.  A refusal writes nothing; on success "room
 beyond the part written is untouched".
+
+Encoding takes small letters as the capitals.  Printing what was encoded, from
+the same case, gives the text in capitals: a caller that wants it as it was typed
+has to keep it.
 """
 
 from collections import namedtuple
@@ -41,17 +46,27 @@ def signals_of_characters():
 SIGNAL_OF = signals_of_characters()
 
 
+def raised(character):
+    """02, T-01: "Encoding is to take a to z as the capitals".  These 26 bytes and
+    no other: 96 and 123 beside them have no signal, and no byte over 127 has one.
+    A letter with a mark is none of the 26, in whatever code it comes."""
+    if ord("a") <= character <= ord("z"):
+        return character - ord("a") + ord("A")
+    return character
+
+
 def encode(case, characters, room):
     # "Order: encoding 5, 1, 2"
     if len(characters) > MOST_CHARACTERS:
         return Refused(5, MOST_CHARACTERS)
+    # The index is that in the text as it was typed, every character counted.
     for index, character in enumerate(characters):
-        if character not in SIGNAL_OF:
+        if raised(character) not in SIGNAL_OF:
             return Refused(1, index)
 
     signals = []
     for character in characters:
-        needed, word = SIGNAL_OF[character]
+        needed, word = SIGNAL_OF[raised(character)]
         # "A shift is put in only where the next letter or figure needs the
         # other case": directly before it, so after the space of "A 1".
         if needed is not None and needed != case:
