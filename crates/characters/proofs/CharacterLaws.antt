@@ -1,23 +1,26 @@
--- A byte's signals, read off the row of the signal that has it: tests that antt computes over all 256 bytes.
+-- A byte's signals, read off the row of the signal that has it: tests that antt computes over the numbers below 128, and from
+-- there on none has a signal.
 -- Assumes nothing.
 use mathlib.Core.Path.{_≡_, refl, ap, sym, _∙_}
-use mathlib.Core.Bool.{Bool, true, false}
+use mathlib.Core.Bool.{Bool, true, false, not, _&&_}
 use mathlib.Core.List.{List, [], _∷_, _++_}
-use Prim.Native.Nat.{ℕ, zero, suc, _-_, _<_, _≤_}
+use Prim.Native.Nat.{ℕ, zero, suc, _+_, _-_, _<_, _≤_}
 use native.Mathlib.Numerals.{sub-one}
 use native.Mathlib.Omega.{arith}
 use lib.Dec.{eqb, ltb, leb, leb→le}
-use borrow.Author.Tests.{eq-eqb, ne-eqb, eqb-true, eqb-false, lt-ltb, ltb-true}
+use lib.ListN.{getD}
+use borrow.Author.Tests.{ne-eqb, le-ltb, ltb-true, ltb-false, lt-ltb}
 use Rattle.laws.specs.Choice.{if_then_else_}
 use Rattle.laws.proofs.Below.{at-below}
 use Rattle.laws.proofs.Table.{tabFrom, same-table}
 use Rattle.signals.specs.declared.Case.{Case}
 use Rattle.signals.specs.declared.Case.the-variants.{Letters, Figures}
 use Rattle.signals.specs.declared.Row.{Row}
-use Rattle.signals.specs.Meaning.{letters, figures}
 use Rattle.signals.specs.Rows.{rowOf}
-use Rattle.text.specs.Encoding.{characterOf, hasSignal, shift, signalsFor, caseAfter}
-use Rattle.characters.specs.Holder.{holderOf, HasRow}
+use Rattle.text.specs.Encoding.{raised, characterOf, hasSignal, shift, signalsFor, caseAfter}
+use Rattle.text.specs.Shifts.{shiftTo, other}
+use Rattle.text.proofs.CharacterLaws.{past-none, signal-is-low}
+use Rattle.characters.specs.Holder.{holderOf, entryOf, Numbers, numbered, HasRow}
 
 -- what a byte gives in a case: its signals, and the case after them
 abbrev Turned : Type 0
@@ -26,101 +29,109 @@ Turned = List ℕ × Case
 abbrev turned : Case → ℕ → Turned
 turned c x = (signalsFor c (characterOf x), caseAfter c (characterOf x))
 
--- what a row says of the byte that it has
-abbrev pub column : Case → Row → ℕ
-column Letters r = r .1
-column Figures r = r .2
-
-abbrev pub other : Case → Case
-other Letters = Figures
-other Figures = Letters
-
-abbrev pub shiftFrom : Case → ℕ
-shiftFrom Letters = figures
-shiftFrom Figures = letters
-
-shift-none : (c : Case) → shift c c ≡ []
-shift-none Letters = refl
-shift-none Figures = refl
-
-shift-one : (c : Case) → shift c (other c) ≡ shiftFrom c ∷ []
-shift-one Letters = refl
-shift-one Figures = refl
+-- Of the bytes with a signal those from 65 on are letters; one below is a figure, unless it stands in the letter column too and is
+-- the same in either case.
+abbrev pub needsShift : Case → Row → ℕ → Bool
+needsShift Letters r x = ltb x 65 && not (eqb (r .1) x)
+needsShift Figures r x = leb 65 x
 
 abbrev byRow : Case → Row → ℕ → Turned
-byRow c r x = if eqb (column c r) x then (r .0 ∷ [], c) else (shiftFrom c ∷ r .0 ∷ [], other c)
+byRow c r x = if needsShift c r x then (shiftTo (other c) ∷ r .0 ∷ [], other c) else (r .0 ∷ [], c)
 
 byNumber : Case → ℕ → ℕ → Turned
 byNumber c zero x = ([], c)
 byNumber c (suc n) x = byRow c (rowOf n) x
 
-same : (c : Case) → tabFrom (λ x. byNumber c (holderOf x) x) 256 0 ≡ tabFrom (turned c) 256 0
-unfolding byNumber holderOf rowOf characterOf
+same : (c : Case) → tabFrom (λ x. byNumber c (holderOf x) x) 128 0 ≡ tabFrom (turned c) 128 0
+unfolding byNumber holderOf rowOf characterOf raised
 same Letters = refl
 same Figures = refl
 
-same-has : tabFrom (λ x. ltb 0 (holderOf x)) 256 0 ≡ tabFrom hasSignal 256 0
-unfolding holderOf characterOf
+same-has : tabFrom (λ x. ltb 0 (holderOf x)) 128 0 ≡ tabFrom hasSignal 128 0
+unfolding holderOf characterOf raised
 same-has = refl
 
-module _ (x : ℕ) (byte : x < 256) where
+same-entry : tabFrom (λ x. leb 128 (entryOf x)) 128 0 ≡ tabFrom hasSignal 128 0
+unfolding holderOf characterOf raised
+same-entry = refl
+
+-- by the table of characters, a number is given to the bytes that have a signal
+pub numbered-has : (l : List ℕ) → Numbers l → (x : ℕ) → numbered l x ≡ hasSignal x
+numbered-has l t x = go (ltb x 128) refl
+  where
+    go : (b : Bool) → ltb x 128 ≡ b → (b && leb 128 (getD l x 0)) ≡ hasSignal x
+    go true e =
+        let h = ltb-true x 128 e in
+        rw (t x h) (same-table (λ x. leb 128 (entryOf x)) hasSignal 128 false same-entry x h)
+    go false e = sym (past-none x (ltb-false x 128 e))
+
+module _ (x : ℕ) (has : hasSignal x ≡ true) where
+  pub low : x < 128
+  low = signal-is-low x has
+
   holder-le : holderOf x ≤ 35
-  unfolding holderOf
-  holder-le = leb→le _ _ (at-below (λ x. leb (holderOf x) 35) 256 tt x byte)
+  unfolding holderOf raised
+  holder-le = leb→le _ _ (at-below (λ x. leb (holderOf x) 35) 128 tt x low)
 
-  agrees-has : ltb 0 (holderOf x) ≡ hasSignal x
-  agrees-has = same-table (λ x. ltb 0 (holderOf x)) hasSignal 256 false same-has x byte
+  holder-pos : 0 < holderOf x
+  holder-pos = ltb-true 0 (holderOf x) (same-table (λ x. ltb 0 (holderOf x)) hasSignal 128 false same-has x low ∙ has)
 
-  has-number : hasSignal x ≡ true → 0 < holderOf x
-  has-number e = ltb-true 0 (holderOf x) (agrees-has ∙ e)
+  -- n is the entry read off the table
+  module _ (n : ℕ) (e : n ≡ entryOf x) where
+    is : n ≡ 128 + holderOf x
+    is = rw (ne-eqb (holderOf x) 0 (λ z. omega (arith, holder-pos))) at e
 
-  -- n is the number read off the table
-  module _ (n : ℕ) (e : n ≡ holderOf x) where
-    pub number-has : (n ≡ 0 → ⊥) → hasSignal x ≡ true
-    number-has f = sym agrees-has ∙ lt-ltb 0 (holderOf x) (omega arith)
+    pub entry-pos : 129 ≤ n
+    entry-pos = omega (arith, is, holder-pos)
 
-    pub number-none : n ≡ 0 → hasSignal x ≡ false
-    number-none z = sym agrees-has ∙ ap (ltb 0) (sym e ∙ z)
+    pub entry-le : n ≤ 163
+    entry-le = omega (arith, is, holder-le)
 
-    pub number-le : n ≤ 35
-    number-le = omega (arith, holder-le)
+    pub place-below : n - 129 < 35
+    place-below = omega (arith, is, holder-le)
 
-    pub place-below : n - 1 < 35
-    place-below = omega (arith, number-le)
+    pub has-row : (r : Row) → r ≡ rowOf (n - 129) → HasRow x r
+    has-row r p =
+        let place : n - 129 ≡ holderOf x - 1 = omega (arith, is) in
+        record { has = has; row = p ∙ ap rowOf place }
 
-    module _ (has : hasSignal x ≡ true) where
-      pub number-pos : 1 ≤ n
-      number-pos = omega (arith, has-number has)
+at-row : (c : Case) (n x : ℕ) → 0 < n → byNumber c n x ≡ byRow c (rowOf (n - 1)) x
+unfolding byNumber
+at-row c zero x f = absurd (omega arith)
+at-row c (suc n) x f = ap (λ (m : ℕ). byRow c (rowOf m) x) (sym (sub-one (suc n)))
 
-      pub has-row : (r : Row) → r ≡ rowOf (n - 1) → HasRow x r
-      has-row r p = record { has = has-number has; row = p ∙ ap (λ (n : ℕ). rowOf (n - 1)) e }
+shift-none : (c : Case) → shift c c ≡ []
+shift-none Letters = refl
+shift-none Figures = refl
 
-  at-row : (c : Case) (n : ℕ) → 0 < n → byNumber c n x ≡ byRow c (rowOf (n - 1)) x
-  unfolding byNumber
-  at-row c zero f = absurd (omega arith)
-  at-row c (suc n) f = ap (λ (m : ℕ). byRow c (rowOf m) x) (sym (sub-one (suc n)))
+shift-one : (c : Case) → shift c (other c) ≡ shiftTo (other c) ∷ []
+shift-one Letters = refl
+shift-one Figures = refl
 
-  module _ (r : Row) (h : HasRow x r) (c : Case) where
-    read : byRow c r x ≡ turned c x
-    read =
-        ap (λ (r : Row). byRow c r x) (h .row)
-        ∙ sym (at-row c (holderOf x) (h .has))
-        ∙ same-table (λ x. byNumber c (holderOf x) x) (turned c) 256 ([], c) (same c) x byte
+module _ (x : ℕ) (r : Row) (h : HasRow x r) (c : Case) where
+  read : byRow c r x ≡ turned c x
+  read =
+      ap (λ (r : Row). byRow c r x) (h .row)
+      ∙ sym (at-row c (holderOf x) x (holder-pos x (h .has)))
+      ∙ same-table (λ x. byNumber c (holderOf x) x) (turned c) 128 ([], c) (same c) x (low x (h .has))
 
-    pub stands : column c r ≡ x → (signalsFor c (characterOf x) ≡ r .0 ∷ []) × (caseAfter c (characterOf x) ≡ c)
-    stands e =
-        let t = rw (eq-eqb (column c r) x e) at read in
-        (ap (λ (t : Turned). t .0) (sym t), ap (λ (t : Turned). t .1) (sym t))
+  -- the case after it, and by that its signals
+  pub case-after : caseAfter c (characterOf x) ≡ (if needsShift c r x then other c else c)
+  case-after = go (needsShift c r x) read
+    where
+      go : (b : Bool) → (if b then (shiftTo (other c) ∷ r .0 ∷ [], other c) else (r .0 ∷ [], c)) ≡ turned c x → caseAfter c (characterOf x) ≡ (if b then other c else c)
+      go true e = ap (λ (t : Turned). t .1) (sym e)
+      go false e = ap (λ (t : Turned). t .1) (sym e)
 
-    pub shifts : (column c r ≡ x → ⊥) → (signalsFor c (characterOf x) ≡ shiftFrom c ∷ r .0 ∷ []) × (caseAfter c (characterOf x) ≡ other c)
-    shifts f =
-        let t = rw (ne-eqb (column c r) x f) at read in
-        (ap (λ (t : Turned). t .0) (sym t), ap (λ (t : Turned). t .1) (sym t))
+  pub shift-then : signalsFor c (characterOf x) ≡ shift c (caseAfter c (characterOf x)) ++ r .0 ∷ []
+  shift-then = go (needsShift c r x) read
+    where
+      go : (b : Bool) → (if b then (shiftTo (other c) ∷ r .0 ∷ [], other c) else (r .0 ∷ [], c)) ≡ turned c x → signalsFor c (characterOf x) ≡ shift c (caseAfter c (characterOf x)) ++ r .0 ∷ []
+      go true e = rw (← ap (λ (t : Turned). t .0) e, ← ap (λ (t : Turned). t .1) e, shift-one c)
+      go false e = rw (← ap (λ (t : Turned). t .0) e, ← ap (λ (t : Turned). t .1) e, shift-none c)
 
-    -- the shift, if any, and then the signal
-    pub shift-then : signalsFor c (characterOf x) ≡ shift c (caseAfter c (characterOf x)) ++ r .0 ∷ []
-    shift-then = go (eqb (column c r) x) refl
-      where
-        go : (b : Bool) → eqb (column c r) x ≡ b → signalsFor c (characterOf x) ≡ shift c (caseAfter c (characterOf x)) ++ r .0 ∷ []
-        go true e = let s = stands (eqb-true _ _ e) in rw (s .0, s .1, shift-none c)
-        go false e = let s = shifts (eqb-false _ _ e) in rw (s .0, s .1, shift-one c)
+  pub stands : caseAfter c (characterOf x) ≡ c → signalsFor c (characterOf x) ≡ r .0 ∷ []
+  stands e = shift-then ∙ rw (e, shift-none c)
+
+  pub shifts : caseAfter c (characterOf x) ≡ other c → signalsFor c (characterOf x) ≡ shiftTo (other c) ∷ r .0 ∷ []
+  shifts e = shift-then ∙ rw (e, shift-one c)

@@ -1,11 +1,16 @@
-// Encoding: operator's characters to signals (01, Text). The text is judged whole before a signal is written (`characters`).
+// Encoding: operator's characters to signals (01, Text; 02, T-01: small letters as the capitals). The text is judged whole before
+// a signal is written (`characters`).
+ghost use mathlib.Core.Bool.{true};
 ghost use mathlib.Core.Path.{_≡_};
-ghost use Prim.Native.Nat.{_+_, _≤_};
+ghost use Prim.Native.Nat.{_+_, _<_, _≤_};
 ghost use lib.ListN.{length};
+ghost use Rattle.laws.specs.Choice.{if_then_else_};
 ghost use Rattle.laws.specs.Room.{Wrote};
 ghost use Rattle.signals.specs.Numbers.{firstNot};
-ghost use Rattle.signals.specs.Rows.{Rows};
-ghost use Rattle.text.specs.Encoding.{characterOf, hasSignal, shift, signalsFor, caseAfter, encoded, endsEncoded, Encodes};
+ghost use Rattle.signals.specs.declared.Row.{Row};
+ghost use Rattle.signals.specs.Rows.{Rows, rowOf};
+ghost use Rattle.text.specs.Encoding.{characterOf, hasSignal, signalsFor, caseAfter, encoded, endsEncoded, Encodes};
+ghost use Rattle.text.specs.Shifts.{shiftTo, other};
 ghost use Rattle.characters.specs.Holder.{Numbers, HasRow};
 use signals::Case;
 use signals::Row;
@@ -17,8 +22,48 @@ struct Reached {
     case: Case,
 }
 
-// The place behind a byte's signals. A byte that does not stand in the column of the case in force needs the other case,
-// and a shift to it; one that is the same in either case stands in both columns.
+// A, the first of the letters: of the bytes that have a signal, those below stand for figures or are the same in either case.
+const FIRST_LETTER: u8 = 65;
+
+fn other_case(case: Case) -> Case
+    ensures { λ r. ⌜ r ≡ other case ⌝ }
+{
+    match case {
+        Case::Letters => Case::Figures,
+        Case::Figures => Case::Letters,
+    }
+}
+
+fn shift_to(case: Case) -> u8
+    ensures { λ r. ⌜ r ≡ shiftTo case ⌝ }
+{
+    match case {
+        Case::Letters => signals::LETTERS,
+        Case::Figures => signals::FIGURES,
+    }
+}
+
+// The place of a byte's signal in the table of rows.
+fn place_of(byte: u8, numbers: &[u8; 128]) -> usize
+    requires { ⌜ Numbers (now numbers) × (hasSignal byte ≡ true) ⌝ }
+    ensures { λ r. ⌜ (r < 35) × ((row : Row) → row ≡ rowOf r → HasRow byte row) ⌝ }
+{
+    numbers[byte as usize] as usize - characters::ENTRY_OF_FIRST
+}
+
+// Whether a byte needs the other case than the one in force. A small letter stands in no column of its row, so a letter is told by
+// its byte; what stands in the letter column too, and is no letter, is the same in either case.
+fn needs_shift(case: Case, byte: u8, row: Row) -> bool
+    requires { ⌜ HasRow byte row ⌝ }
+    ensures { λ r. ⌜ caseAfter case (characterOf byte) ≡ (if r then other case else case) ⌝ }
+{
+    match case {
+        Case::Letters => (byte < FIRST_LETTER) & (row.1 != byte),
+        Case::Figures => FIRST_LETTER <= byte,
+    }
+}
+
+// The place behind a byte's signals.
 fn past(from: Reached, byte: u8, row: Row) -> Reached
     requires { ⌜ HasRow byte row × (from .at ≤ 8192) ⌝ }
     ensures { λ r. ⌜ r .at ≡ from .at + length (signalsFor (from .case) (characterOf byte)) ⌝ }
@@ -26,75 +71,38 @@ fn past(from: Reached, byte: u8, row: Row) -> Reached
 {
     let at = from.at;
     let case = from.case;
-    match case {
-        Case::Letters => {
-            if row.1 != byte {
-                return Reached {
-                    at: at + 2,
-                    case: Case::Figures,
-                };
-            }
-            Reached { at: at + 1, case }
-        }
-        Case::Figures => {
-            if row.2 != byte {
-                return Reached {
-                    at: at + 2,
-                    case: Case::Letters,
-                };
-            }
-            Reached { at: at + 1, case }
-        }
+    if needs_shift(case, byte, row) {
+        return Reached {
+            at: at + 2,
+            case: other_case(case),
+        };
     }
+    Reached { at: at + 1, case }
 }
 
-// Writes the shift that a byte needs before its signal, if any (see `past`).
-fn put_shift(room: &mut [u8], from: Reached, byte: u8, row: Row) -> Reached
-    requires { ⌜ HasRow byte row × (from .at + length (shift (from .case) (caseAfter (from .case) (characterOf byte))) ≤ length (now room)) ⌝ }
-    ensures { λ r. ⌜ Wrote (now (room .entry)) (from .at) (shift (from .case) (caseAfter (from .case) (characterOf byte))) (r .at) (now (room .exit)) ⌝ }
-    ensures { λ r. ⌜ r .case ≡ caseAfter (from .case) (characterOf byte) ⌝ }
-{
-    let at = from.at;
-    let case = from.case;
-    match case {
-        Case::Letters => {
-            if row.1 == byte {
-                return from;
-            }
-            room[at] = signals::FIGURES;
-            Reached {
-                at: at + 1,
-                case: Case::Figures,
-            }
-        }
-        Case::Figures => {
-            if row.2 == byte {
-                return from;
-            }
-            room[at] = signals::LETTERS;
-            Reached {
-                at: at + 1,
-                case: Case::Letters,
-            }
-        }
-    }
-}
-
-// Writes a byte's signals.
+// Writes a byte's signals: the shift that it needs, if any, and its own.
 fn put(room: &mut [u8], from: Reached, byte: u8, row: Row) -> Reached
     requires { ⌜ HasRow byte row × (from .at + length (signalsFor (from .case) (characterOf byte)) ≤ length (now room)) ⌝ }
     ensures { λ r. ⌜ Wrote (now (room .entry)) (from .at) (signalsFor (from .case) (characterOf byte)) (r .at) (now (room .exit)) ⌝ }
     ensures { λ r. ⌜ r .case ≡ caseAfter (from .case) (characterOf byte) ⌝ }
 {
-    let to = put_shift(room, from, byte, row);
-    let at = to.at;
+    let at = from.at;
+    let case = from.case;
+    if needs_shift(case, byte, row) {
+        let to = other_case(case);
+        room[at] = shift_to(to);
+        room[at + 1] = row.0;
+        return Reached {
+            at: at + 2,
+            case: to,
+        };
+    }
     room[at] = row.0;
-    let case = to.case;
     Reached { at: at + 1, case }
 }
 
 // The room that the text's signals need.
-fn room_for(text: &[u8], numbers: &[u8; 256], rows: [Row; 35], case: Case) -> usize
+fn room_for(text: &[u8], numbers: &[u8; 128], rows: [Row; 35], case: Case) -> usize
     requires { ⌜ Numbers (now numbers) × Rows rows × (length (now text) ≤ 4096) × (length (now text) ≤ firstNot hasSignal (now text)) ⌝ }
     ensures { λ r. ⌜ r ≡ length (encoded case (now (text .entry))) ⌝ }
 {
@@ -102,26 +110,30 @@ fn room_for(text: &[u8], numbers: &[u8; 256], rows: [Row; 35], case: Case) -> us
     let mut i = 0;
     while i < text.len() {
         let byte = text[i];
-        let row = rows[numbers[byte as usize] as usize - 1];
-        to = past(to, byte, row);
+        to = past(to, byte, rows[place_of(byte, numbers)]);
         i += 1;
     }
     to.at
 }
 
-// Writes the text's signals at the start of the room.
-fn write(text: &[u8], numbers: &[u8; 256], rows: [Row; 35], case: Case, room: &mut [u8]) -> Reached
+// Writes the text's signals at the start of the room, two bytes a turn.
+fn write(text: &[u8], numbers: &[u8; 128], rows: [Row; 35], case: Case, room: &mut [u8]) -> Reached
     requires { ⌜ Numbers (now numbers) × Rows rows × (length (now text) ≤ firstNot hasSignal (now text)) × (length (encoded case (now text)) ≤ length (now room)) ⌝ }
     ensures { λ r. ⌜ Wrote (now (room .entry)) 0 (encoded case (now (text .entry))) (r .at) (now (room .exit)) ⌝ }
     ensures { λ r. ⌜ r .case ≡ endsEncoded case (now (text .entry)) ⌝ }
 {
     let mut to = Reached { at: 0, case };
     let mut i = 0;
-    while i < text.len() {
+    while i + 1 < text.len() {
         let byte = text[i];
-        let row = rows[numbers[byte as usize] as usize - 1];
-        to = put(room, to, byte, row);
-        i += 1;
+        to = put(room, to, byte, rows[place_of(byte, numbers)]);
+        let next = text[i + 1];
+        to = put(room, to, next, rows[place_of(next, numbers)]);
+        i += 2;
+    }
+    if i < text.len() {
+        let last = text[i];
+        to = put(room, to, last, rows[place_of(last, numbers)]);
     }
     to
 }

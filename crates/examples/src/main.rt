@@ -53,11 +53,22 @@ fn print_line(line: &mut [u8], at: usize, about: &[u8], answer: Printed) -> usiz
     numbers::put(line, to, 10)
 }
 
+// A small letter is taken as its capital (02, T-01): what it gives, and the word.
+fn small_letter(line: &mut [u8], at: usize) -> usize {
+    let mut room = [0u8; 2];
+    let answer = encoding::encode(b"a", Case::Letters, &mut room);
+    let mut to = numbers::put_all(line, at, b"encode \"a\": ");
+    to = put_encoded(line, to, answer);
+    to = numbers::put_all(line, to, b", the word ");
+    to = filters::put_decimal(line, to, room[0] as u64);
+    numbers::put(line, to, 10)
+}
+
 fn text(line: &mut [u8], at: usize) -> usize {
     let mut room = [0u8; 2];
-    let small = encoding::encode(b"a", Case::Letters, &mut room);
+    let brace = encoding::encode(b"{", Case::Letters, &mut room);
     let short = encoding::encode(b"A1", Case::Letters, &mut room);
-    let to = encode_line(line, at, b"encode \"a\": ", small);
+    let to = encode_line(line, at, b"encode \"{\": ", brace);
     encode_line(line, to, b"encode \"A1\", room 2: ", short)
 }
 
@@ -191,7 +202,8 @@ fn main() {
     }
     // all lines, which come to less
     let mut lines = [0u8; 1024];
-    let mut at = text(&mut lines, 0);
+    let mut at = small_letter(&mut lines, 0);
+    at = text(&mut lines, at);
     at = encode_limits(&mut lines, at);
     at = print_limits(&mut lines, at);
     at = count_31(&mut lines, at);

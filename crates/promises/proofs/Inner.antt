@@ -47,8 +47,8 @@ rows-unique r r′ n n′ p q =
 pub is-traffic-unique : (w : ℕ) (r r′ : Bool) → r ≡ trafficOf w → r′ ≡ trafficOf w → r ≡ r′
 is-traffic-unique w r r′ p q = unique p q
 
--- `characters::numbers`: the length, 256, is the answer's type; `characters::first_without`, whatever table is lent
-pub numbers-unique : (r r′ : List ℕ) → length r ≡ 256 → length r′ ≡ 256 → Numbers r → Numbers r′ → r ≡ r′
+-- `characters::numbers`: the length, 128, is the answer's type; `characters::first_without`, whatever table is lent
+pub numbers-unique : (r r′ : List ℕ) → length r ≡ 128 → length r′ ≡ 128 → Numbers r → Numbers r′ → r ≡ r′
 numbers-unique r r′ n n′ p q =
     ext-getD 0 r r′ (unique n n′) (λ x h. unique (p x (subst (λ k. x < k) n h)) (q x (subst (λ k. x < k) n h)))
 

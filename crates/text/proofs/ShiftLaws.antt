@@ -18,7 +18,7 @@ use Rattle.signals.proofs.NumberLaws.{all-head}
 use Rattle.text.specs.declared.Character.{Character}
 use Rattle.text.specs.declared.Character.the-variants.{Without, Either, Needing}
 use Rattle.text.specs.Written.{Written}
-use Rattle.text.specs.Encoding.{characterOf, shift, signalsFor, caseAfter, hasSignal, encoded, endsEncoded, encoding}
+use Rattle.text.specs.Encoding.{raised, characterOf, shift, signalsFor, caseAfter, hasSignal, encoded, endsEncoded, encoding}
 use Rattle.text.specs.Printing.{caseAt, endsPrinted}
 use Rattle.text.specs.Shifts.{shiftTo, Needed}
 use Rattle.text.proofs.AnswerLaws.{answered-means}
@@ -40,7 +40,7 @@ unequal a b t e = T-not (eqb a b) t (rw e (eqb-refl b))
 
 module _ (x : ℕ) (byte : x < 256) where
   passes : T (plainTest x)
-  unfolding plainTest characterOf
+  unfolding plainTest characterOf raised
   passes = at-below plainTest 256 tt x byte
 
   not-letters : wordIs (characterOf x) ≡ letters → ⊥

@@ -1,10 +1,10 @@
--- 01, Text: characters to signals.  R-026, R-027, R-028, R-029, R-030, R-031, R-038
+-- 01, Text: characters to signals, and 02, T-01: small letters.  R-026, R-027, R-028, R-029, R-030, R-031, R-038
 -- Assumes nothing.
 use mathlib.Core.Path.{_≡_}
-use mathlib.Core.Bool.{Bool, true, false}
+use mathlib.Core.Bool.{Bool, true, false, _&&_}
 use mathlib.Core.List.{List, [], _∷_, _++_}
-use Prim.Native.Nat.{ℕ}
-use lib.Dec.{eqb, ltb}
+use Prim.Native.Nat.{ℕ, _-_}
+use lib.Dec.{eqb, ltb, leb}
 use lib.ListN.{length}
 use Rattle.laws.specs.Choice.{if_then_else_}
 use Rattle.signals.specs.declared.Case.{Case}
@@ -27,8 +27,16 @@ characterIn (lone w l ∷ ss) x = if eqb x l then Needing Letters w else charact
 characterIn (free w c ∷ ss) x = if eqb x c then Either w else characterIn ss x
 characterIn (mute w ∷ ss) x = characterIn ss x
 
+-- 02, T-01: "Encoding is to take a to z as the capitals": 97 to 122 become 65 to 90, every other byte stays
+abbrev pub small : ℕ → Bool
+small x = leb 97 x && leb x 122
+
+unfoldable pub raised : ℕ → ℕ
+raised x = if small x then x - 32 else x
+
+-- what has a signal is told of the raised byte
 unfoldable pub characterOf : ℕ → Character
-characterOf x = characterIn signals x
+characterOf x = characterIn signals (raised x)
 
 -- "A shift is put in only where the next letter or figure needs the other case"  R-030
 abbrev pub shift : Case → Case → List ℕ

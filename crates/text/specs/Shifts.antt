@@ -1,6 +1,6 @@
 -- 01, Text: "A shift is put in only where the next letter or figure needs the other case"  R-030, as a statement about
 -- every place of an encoded text at which a shift stands.
--- That the character is the one of the text follows with the round trip: printing gives the text back.
+-- That the character is the one of the text follows with the round trip: printing gives the text in capitals.
 -- Assumes nothing.
 use mathlib.Core.Path.{_≡_}
 use mathlib.Core.List.{List, _∷_}

@@ -1,90 +1,40 @@
--- `encoding::write` meets its contract: at each turn what is left to write makes of the room what the whole text makes
--- of it at first. Assumes nothing.
-use Prim.Native.Nat.{_-_, _<_}
+-- `encoding::write` meets its contract: after each byte what is left to write makes of the room what the whole text makes of it
+-- at first. Assumes nothing.
+use mathlib.Core.Path.{_≡_}
+use Prim.Native.Nat.{_+_, _-_}
 use native.Mathlib.Omega.{arith}
-use lib.ListN.{length, getD}
-use Rattle.characters.proofs.CharacterLaws.{number-le, number-pos, place-below, has-row}
+use lib.ListN.{length}
+use borrow.Author.Needs.{needs}
 use Rattle.encoding.proofs.WriteLaws.{Writing, write-starts, write-next, write-ends, turn-room, turn-end, has-at}
 use Rattle.encoding.proofs.write.Statement.{statement}
 use Rattle.encoding.proofs.write.Tie as tie
 
-abbrev Inv-loop : tie.InvT-loop
-Inv-loop text numbers room₀ rows to₀ i₀ room to i = Writing text (to₀ .case) room₀ room (to .at) (to .case) i
+abbrev Inv : tie.InvT-loop
+Inv text numbers room₀ rows to₀ i₀ room to i = Writing text (to₀ .case) room₀ room (to .at) (to .case) i
 
-abbrev μ-loop : tie.MeasureT-loop
-μ-loop text numbers room₀ rows to₀ i₀ room to i = length text - i
+abbrev μ : tie.MeasureT-loop
+μ text numbers room₀ rows to₀ i₀ room to i = length text - i
 
-loop-holds : tie.Need-loop-holds Inv-loop μ-loop
-loop-holds c =
-    write-starts (c .before .before .args .text .now) (c .before .before .args .case) (c .before .before .args .room .now)
-
-shared-slice-read-byte : tie.Need-shared-slice-read-byte Inv-loop μ-loop
-shared-slice-read-byte c = omega arith
-
-cast-row : tie.Need-cast-row Inv-loop μ-loop
-cast-row c = omega (arith, c .shared-slice-known2 .given (c .before .before .loop .i))
-
-element-copy-out-row : tie.Need-element-copy-out-row Inv-loop μ-loop
-element-copy-out-row c = omega (arith, c .shared-slice-known2 .given (c .before .before .loop .i))
-
-cast-row-2 : tie.Need-cast-row-2 Inv-loop μ-loop
-cast-row-2 c =
+-- the first byte of a turn
+place-of-requires : tie.Need-place-of-requires Inv μ
+place-of-requires c κs =
     let a = c .before .before .before .before .before .before in
-    let text = a .args .text .now in
-    let i = c .before .before .before .loop .i in
-    let byte : getD text i 0 < 256 = omega (arith, c .before .shared-slice-known2 .given i) in
-    omega (arith, number-le (getD text i 0) byte _ (a .pre .0 (getD text i 0) byte))
+    (a .pre .0, has-at (a .args .text .now) (c .before .before .before .loop .i) (a .pre .2) (omega arith))
 
-sub-row : tie.Need-sub-row Inv-loop μ-loop
-sub-row c =
-    let a = c .before .before .before .before .before .before in
-    let text = a .args .text .now in
-    let i = c .before .before .before .loop .i in
-    let byte : getD text i 0 < 256 = omega (arith, c .before .shared-slice-known2 .given i) in
-    number-pos (getD text i 0) byte _ (a .pre .0 (getD text i 0) byte) (has-at text i (a .pre .2) (c .before .before .loop-test .taken))
-
-mul-row : tie.Need-mul-row Inv-loop μ-loop
-mul-row c =
-    let a = c .before .before .before .before .before .before in
-    let text = a .args .text .now in
-    let i = c .before .before .before .loop .i in
-    let byte : getD text i 0 < 256 = omega (arith, c .before .shared-slice-known2 .given i) in
-    omega (arith, number-le (getD text i 0) byte _ (a .pre .0 (getD text i 0) byte))
-
-array-copy-out-row : tie.Need-array-copy-out-row Inv-loop μ-loop
-array-copy-out-row c =
-    let a = c .before .before .before .before .before .before in
-    let text = a .args .text .now in
-    let i = c .before .before .before .loop .i in
-    let byte : getD text i 0 < 256 = omega (arith, c .before .shared-slice-known2 .given i) in
-    omega (arith, number-le (getD text i 0) byte _ (a .pre .0 (getD text i 0) byte))
-
-put-requires : tie.Need-put-requires Inv-loop μ-loop
+put-requires : tie.Need-put-requires Inv μ
 put-requires c κs =
     let a = c .before .before .before .before .before .before .before .before in
-    let text = a .args .text .now in
     let l = c .before .before .before .before .before .loop in
-    let x = getD text (l .i) 0 in
-    let byte : x < 256 = omega (arith, c .before .before .before .shared-slice-known2 .given (l .i)) in
-    let in-text = c .before .before .before .before .loop-test .taken in
-    let room = turn-room text (a .args .case) (l .to .at) (l .to .case) (l .i) (l .inv .turning) in-text in
-    let n = a .pre .0 x byte in
-    let row = a .pre .1 _ (place-below x byte _ n) in
-    (has-row x byte _ n (has-at text (l .i) (a .pre .2) in-text) _ row, omega (arith, a .pre .3, l .inv .same))
+    let room = turn-room (a .args .text .now) (a .args .case) (l .to .at) (l .to .case) (l .i) (l .inv .turning) (omega arith) in
+    let p = c .before .place-of .ensures in
+    (p .1 _ (a .pre .1 _ (p .0)), omega (arith, a .pre .3, l .inv .same))
 
-add-i : tie.Need-add-i Inv-loop μ-loop
-add-i c = omega arith
-
-loop-less : tie.Need-loop-less Inv-loop μ-loop
-loop-less c = omega arith
-
-loop-again : tie.Need-loop-again Inv-loop μ-loop
-loop-again c =
+first : (c : tie.After-slice-known2 Inv μ) → Writing (c .before .before .before .before .before .before .before .before .before .before .before .args .text .now) (c .before .before .before .before .before .before .before .before .before .before .before .args .case) (c .before .before .before .before .before .before .before .before .before .before .before .args .room .now) (c .before .before .put .last .0) (c .before .before .put .result .at) (c .before .before .put .result .case) (c .before .before .before .before .before .before .before .before .loop .i + 1)
+first c =
     let a = c .before .before .before .before .before .before .before .before .before .before .before in
     let l = c .before .before .before .before .before .before .before .before .loop in
     let p = c .before .before .put in
-    write-next (a .args .text .now) (a .args .case) (a .args .room .now) (l .room) (l .to .at) (l .to .case) (l .i) (l .inv)
-    (c .before .before .before .before .before .before .before .loop-test .taken)
+    write-next (a .args .text .now) (a .args .case) (a .args .room .now) (l .room) (l .to .at) (l .to .case) (l .i) (l .inv) (omega arith)
     (p .result .at)
     (p .last .0)
     (p .ensures .0)
@@ -92,34 +42,94 @@ loop-again c =
     (p .result .case)
     (p .ensures .1)
 
-same-length : tie.Need-same-length Inv-loop μ-loop
-same-length c = c .before .loop .inv .same
+-- and the second
+place-of-requires-2 : tie.Need-place-of-requires-2 Inv μ
+place-of-requires-2 c κs =
+    let s = c .before .before in
+    let a = s .before .before .before .before .before .before .before .before .before .before .before in
+    let l = s .before .before .before .before .before .before .before .before .loop in
+    (a .pre .0, has-at (a .args .text .now) (l .i + 1) (a .pre .2) (omega arith))
 
-returns : tie.Need-returns Inv-loop μ-loop
+put-requires-2 : tie.Need-put-requires-2 Inv μ
+put-requires-2 c κs =
+    let s = c .before .before .before .before in
+    let a = s .before .before .before .before .before .before .before .before .before .before .before in
+    let l = s .before .before .before .before .before .before .before .before .loop in
+    let w = first s in
+    let room = turn-room (a .args .text .now) (a .args .case) _ _ (l .i + 1) (w .turning) (omega arith) in
+    let p = c .before .place-of2 .ensures in
+    (p .1 _ (a .pre .1 _ (p .0)), omega (arith, a .pre .3, w .same))
+
+loop-again : tie.Need-loop-again Inv μ
+loop-again c =
+    let s = c .before .before .before .before .before .before .before in
+    let a = s .before .before .before .before .before .before .before .before .before .before .before in
+    let l = s .before .before .before .before .before .before .before .before .loop in
+    let p = c .before .before .put2 in
+    let w = write-next (a .args .text .now) (a .args .case) (a .args .room .now) _ _ _ (l .i + 1) (first s) (omega (arith, s .before .before .before .before .before .before .before .loop-test .taken)) (p .result .at) (p .last .0) (p .ensures .0) (p .kept .0) (p .result .case) (p .ensures .1) in
+    let two : l .i + 1 + 1 ≡ l .i + 2 = omega arith in
+    rw two at w
+
+-- a last byte that is left alone
+place-of-requires-3 : tie.Need-place-of-requires-3 Inv μ
+place-of-requires-3 c κs =
+    let a = c .before .before .before .before .before .before .before in
+    (a .pre .0, has-at (a .args .text .now) (c .before .before .before .before .loop .i) (a .pre .2) (c .before .before .if1 .taken))
+
+put-requires-3 : tie.Need-put-requires-3 Inv μ
+put-requires-3 c κs =
+    let a = c .before .before .before .before .before .before .before .before .before in
+    let l = c .before .before .before .before .before .before .loop in
+    let room = turn-room (a .args .text .now) (a .args .case) (l .to .at) (l .to .case) (l .i) (l .inv .turning) (c .before .before .before .before .if1 .taken) in
+    let p = c .before .place-of3 .ensures in
+    (p .1 _ (a .pre .1 _ (p .0)), omega (arith, a .pre .3, l .inv .same))
+
+returns : tie.Need-returns Inv μ
 returns c =
-    let a = c .before .before .before .before in
-    let l = c .before .loop in (
-      write-ends (a .args .text .now) (a .args .case) (a .args .room .now) (l .room) (l .to .at) (l .to .case) (l .i) (l .inv) (c .loop-test .left),
-      turn-end (a .args .text .now) (a .args .case) (l .to .at) (l .to .case) (l .i) (l .inv .turning) (c .loop-test .left),
+    let a = c .before .before .before .before .before .before .before .before .before .before .before .before in
+    let l = c .before .before .before .before .before .before .before .before .before .loop in
+    let p = c .before .before .put3 in
+    let w = write-next (a .args .text .now) (a .args .case) (a .args .room .now) (l .room) (l .to .at) (l .to .case) (l .i) (l .inv) (c .before .before .before .before .before .before .before .if1 .taken) (p .result .at) (p .last .0) (p .ensures .0) (p .kept .0) (p .result .case) (p .ensures .1) in (
+      write-ends (a .args .text .now) (a .args .case) (a .args .room .now) _ _ _ (l .i + 1) w (omega arith),
+      turn-end (a .args .text .now) (a .args .case) _ _ (l .i + 1) (w .turning) (omega arith),
+    )
+
+returns-2 : tie.Need-returns-2 Inv μ
+returns-2 c =
+    let a = c .before .before .before .before .before in
+    let l = c .before .before .loop in (
+      write-ends (a .args .text .now) (a .args .case) (a .args .room .now) (l .room) (l .to .at) (l .to .case) (l .i) (l .inv) (c .if1 .left),
+      turn-end (a .args .text .now) (a .args .case) (l .to .at) (l .to .case) (l .i) (l .inv .turning) (c .if1 .left),
     )
 
 pub write-spec : {M : Type 1} → statement M
 write-spec =
     tie.close
     (tie.spec
-    Inv-loop
-    μ-loop
-    loop-holds
-    shared-slice-read-byte
-    cast-row
-    element-copy-out-row
-    cast-row-2
-    sub-row
-    mul-row
-    array-copy-out-row
+    Inv
+    μ
+    (λ c. write-starts (c .before .before .args .text .now) (c .before .before .args .case) (c .before .before .args .room .now))
+    (λ c. search needs)
+    (λ c. search needs)
+    place-of-requires
+    (λ c. omega (arith, c .place-of .ensures .0))
+    (λ c. omega (arith, c .place-of .ensures .0))
     put-requires
-    add-i
-    loop-less
+    (λ c. search needs)
+    (λ c. search needs)
+    place-of-requires-2
+    (λ c. omega (arith, c .place-of2 .ensures .0))
+    (λ c. omega (arith, c .place-of2 .ensures .0))
+    put-requires-2
+    (λ c. search needs)
+    (λ c. search needs)
     loop-again
-    same-length
-    returns)
+    (λ c. search needs)
+    place-of-requires-3
+    (λ c. omega (arith, c .place-of3 .ensures .0))
+    (λ c. omega (arith, c .place-of3 .ensures .0))
+    put-requires-3
+    (λ c. search needs)
+    returns
+    (λ c. search needs)
+    returns-2)

@@ -1,0 +1,48 @@
+-- A number raised: what is no small letter stays, and once is enough. Assumes nothing.
+use mathlib.Core.Path.{_≡_, refl}
+use mathlib.Core.Bool.{Bool, true, false, _&&_}
+use mathlib.Core.List.{List, [], _∷_, map}
+use Prim.Native.Nat.{ℕ, _-_, _<_, _≤_}
+use native.Mathlib.Omega.{arith}
+use lib.Dec.{leb}
+use lib.ListN.{length}
+use borrow.Author.Tests.{lt-leb, le-leb, leb-true, leb-false}
+use Rattle.laws.specs.Choice.{if_then_else_}
+use Rattle.text.specs.Encoding.{small, raised}
+
+pub raised-stays : (x : ℕ) → small x ≡ false → raised x ≡ x
+unfolding raised
+raised-stays x e = rw e
+
+pub small-past : (x : ℕ) → 122 < x → small x ≡ false
+small-past x h = rw (lt-leb x 122 h) (go (leb 97 x))
+  where
+    go : (b : Bool) → (b && false) ≡ false
+    go true = refl
+    go false = refl
+
+small-before : (x : ℕ) → x < 97 → small x ≡ false
+small-before x h = rw (lt-leb 97 x h)
+
+small-means : (x : ℕ) → small x ≡ true → (97 ≤ x) × (x ≤ 122)
+small-means x e = go (leb 97 x) (leb x 122) refl refl e
+  where
+    go : (a b : Bool) → leb 97 x ≡ a → leb x 122 ≡ b → (a && b) ≡ true → (97 ≤ x) × (x ≤ 122)
+    go true true p q e = (leb-true 97 x p, leb-true x 122 q)
+    go true false p q e = let z : _≡_ {A = ℕ} 0 1 = cc in absurd (omega arith)
+    go false b p q e = let z : _≡_ {A = ℕ} 0 1 = cc in absurd (omega arith)
+
+raised-small : (x : ℕ) → small x ≡ true → raised x ≡ x - 32
+unfolding raised
+raised-small x e = rw e
+
+pub raised-twice : (x : ℕ) → raised (raised x) ≡ raised x
+raised-twice x = go (small x) refl
+  where
+    go : (b : Bool) → small x ≡ b → raised (raised x) ≡ raised x
+    go true e = let m = small-means x e in rw (raised-small x e) (raised-stays (x - 32) (small-before (x - 32) (omega (arith, m .0, m .1))))
+    go false e = rw (raised-stays x e) (raised-stays x e)
+
+pub length-raised : (text : List ℕ) → length (map raised text) ≡ length text
+length-raised [] = refl
+length-raised (x ∷ xs) = rw (length-raised xs)
