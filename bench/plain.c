@@ -1,6 +1,6 @@
 /* not proved: for comparison only */
 
-/* Radio-telex logic after ITU-R M.625, as narrowed by paper 01: see plain.h. */
+/* Radio-telex logic after ITU-R M.625, as papers 01 and 02 have it: see plain.h. */
 
 #include "plain.h"
 
@@ -101,12 +101,15 @@ static inline answer hand_over(const uint8_t *own, size_t count, unsigned ends_i
 
 /* Of a character: its word; the shift it needs; in bit 16 whether it leaves the
  * case as it is; in bit 24 whether it needs figures.  0 for a byte without a
- * signal. */
+ * signal.  A small letter has the entry of its capital (02, T-01). */
 #define IN_CASE(word, shift) (ORDINARY | (uint32_t)(shift) << 8 | (word))
+#define SMALL(letter) ((letter) + 32)
 #define SHIFTED(number, word, letter, figure) \
-    [letter] = IN_CASE(word, WORD_LETTERS), \
+    LETTER(number, word, letter) \
     [figure] = IN_CASE(word, WORD_FIGURES) | UINT32_C(1) << 24,
-#define LETTER(number, word, letter) [letter] = IN_CASE(word, WORD_LETTERS),
+#define LETTER(number, word, letter) \
+    [letter] = IN_CASE(word, WORD_LETTERS), \
+    [SMALL(letter)] = IN_CASE(word, WORD_LETTERS),
 #define PLAIN(number, word, character) \
     [character] = IN_CASE(word, 0) | UINT32_C(1) << 16,
 static const uint32_t SIGNAL[256] = {

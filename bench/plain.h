@@ -1,7 +1,8 @@
 /* not proved: for comparison only */
 
-/* Radio-telex logic after ITU-R M.625 (SITOR), as narrowed by paper 01.  The proved
- * calls are in crates/; docs/COST.md says what this C is compared for.
+/* Radio-telex logic after ITU-R M.625 (SITOR), as narrowed by paper 01 and changed
+ * by 02 (T-01).  The proved calls are in crates/; docs/COST.md says what this C is
+ * compared for.
  *
  * A word is a byte, the unit sent first in bit 0.  A burst is three words in a
  * uint32_t, the first word in the low byte, the top byte zero.

@@ -9,7 +9,7 @@ use native.Mathlib.Numerals.{sub-one}
 use native.Mathlib.Omega.{arith}
 use lib.Dec.{eqb, ltb, leb, leb→le}
 use lib.ListN.{getD}
-use borrow.Author.Tests.{ne-eqb, le-ltb, ltb-true, ltb-false, lt-ltb}
+use borrow.Author.Tests.{ne-eqb, ltb-true, ltb-false}
 use Rattle.laws.specs.Choice.{if_then_else_}
 use Rattle.laws.proofs.Below.{at-below}
 use Rattle.laws.proofs.Table.{tabFrom, same-table}

@@ -1,4 +1,4 @@
-// Encodes standard input, from letters case, and writes its signals (docs/FORMATS.md).
+// Encodes standard input, from letters case, small letters as capitals, and writes its signals (docs/FORMATS.md).
 use filters::Stream;
 use signals::Case;
 use text::Encoded;

@@ -53,14 +53,18 @@ fn print_line(line: &mut [u8], at: usize, about: &[u8], answer: Printed) -> usiz
     numbers::put(line, to, 10)
 }
 
+fn put_word(line: &mut [u8], at: usize, word: u8) -> usize {
+    let to = numbers::put_all(line, at, b", the word ");
+    filters::put_decimal(line, to, word as u64)
+}
+
 // A small letter is taken as its capital (02, T-01): what it gives, and the word.
 fn small_letter(line: &mut [u8], at: usize) -> usize {
     let mut room = [0u8; 2];
     let answer = encoding::encode(b"a", Case::Letters, &mut room);
     let mut to = numbers::put_all(line, at, b"encode \"a\": ");
     to = put_encoded(line, to, answer);
-    to = numbers::put_all(line, to, b", the word ");
-    to = filters::put_decimal(line, to, room[0] as u64);
+    to = put_word(line, to, room[0]);
     numbers::put(line, to, 10)
 }
 

@@ -38,7 +38,7 @@ pub fn intact(word: u8) -> bool
     signals::intact(word)
 }
 
-// 01, Text.
+// 01, Text; 02, T-01: `encode` takes small letters as the capitals.
 pub fn encode(text: &[u8], case: Case, room: &mut [u8]) -> Encoded
     ensures { λ r. ⌜ Encodes (now (text .entry)) case (now (room .entry)) r (now (room .exit)) ⌝ }
 {

@@ -1,24 +1,41 @@
 -- 02, T-01: "Encoding is to take a to z as the capitals".
---     taken-bytes    the bytes that have a signal are those of `Taken`, and no other number has one
---     raised-alike   a text is answered as the text in capitals is: signals, case, room, each refusal and the value beside it
+--     raised-letters   a to z, one after the other, become A to Z
+--     raised-others    every other number stays
+--     taken-bytes      the bytes that have a signal are those of `Taken`, and no other number has one
+--     raised-alike     a text is answered as the text in capitals is: signals, case, room, each refusal and the value beside it
 -- Assumes nothing.
 use mathlib.Core.Path.{_≡_, refl, ap, sym, _∙_}
 use mathlib.Core.Bool.{Bool, true, false, _&&_, _||_}
 use mathlib.Core.List.{List, [], _∷_, map}
-use Prim.Native.Nat.{ℕ, suc, _<_, _≤_}
+use Prim.Native.Nat.{ℕ, _≤_}
 use native.Mathlib.Omega.{arith}
-use lib.Dec.{T, ltb, ltb→lt}
-use lib.ListN.{length}
-use borrow.Author.Tests.{ne-eqb, ltb-true, ltb-false}
-use Rattle.laws.specs.Choice.{if_then_else_}
+use lib.Dec.{T, eqb, ltb, ltb→lt}
+use borrow.Author.Tests.{ne-eqb, eqb-true, ltb-true, ltb-false}
 use Rattle.laws.proofs.Below.{both-left, both-right}
 use Rattle.laws.proofs.Table.{tabFrom, same-table}
 use Rattle.signals.specs.declared.Case.{Case}
 use Rattle.signals.specs.Numbers.{firstNot}
-use Rattle.text.specs.Encoding.{raised, characterOf, hasSignal, signalsFor, caseAfter, encoded, endsEncoded, encoding}
-use Rattle.text.specs.Taken.{taken, among}
-use Rattle.text.proofs.RaisedLaws.{raised-twice, length-raised}
+use Rattle.text.specs.Encoding.{raised, characterOf, hasSignal, caseAfter, encoded, endsEncoded, encoding}
+use Rattle.text.specs.Taken.{capitalsTaken, smallTaken, taken, among}
+use Rattle.text.proofs.RaisedLaws.{raised-stays, small-past, raised-twice, length-raised}
 use Rattle.text.proofs.CharacterLaws.{past-none}
+
+pub raised-letters : map raised smallTaken ≡ capitalsTaken
+unfolding raised
+raised-letters = refl
+
+others-below : tabFrom (λ x. among smallTaken x || eqb (raised x) x) 128 0 ≡ tabFrom (λ x. true) 128 0
+unfolding raised
+others-below = refl
+
+pub raised-others : (x : ℕ) → among smallTaken x ≡ false → raised x ≡ x
+raised-others x none = go (ltb x 128) refl
+  where
+    go : (b : Bool) → ltb x 128 ≡ b → raised x ≡ x
+    go true p =
+        let t = same-table (λ x. among smallTaken x || eqb (raised x) x) (λ x. true) 128 true others-below x (ltb-true x 128 p) in
+        eqb-true (raised x) x (rw none at t)
+    go false p = raised-stays x (small-past x (let h = ltb-false x 128 p in omega arith))
 
 -- below 128 both are computed
 taken-below : tabFrom hasSignal 128 0 ≡ tabFrom (among taken) 128 0

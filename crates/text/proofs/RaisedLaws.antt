@@ -6,23 +6,12 @@ use Prim.Native.Nat.{ℕ, _-_, _<_, _≤_}
 use native.Mathlib.Omega.{arith}
 use lib.Dec.{leb}
 use lib.ListN.{length}
-use borrow.Author.Tests.{lt-leb, le-leb, leb-true, leb-false}
-use Rattle.laws.specs.Choice.{if_then_else_}
+use borrow.Author.Tests.{leb-true}
 use Rattle.text.specs.Encoding.{small, raised}
 
 pub raised-stays : (x : ℕ) → small x ≡ false → raised x ≡ x
 unfolding raised
 raised-stays x e = rw e
-
-pub small-past : (x : ℕ) → 122 < x → small x ≡ false
-small-past x h = rw (lt-leb x 122 h) (go (leb 97 x))
-  where
-    go : (b : Bool) → (b && false) ≡ false
-    go true = refl
-    go false = refl
-
-small-before : (x : ℕ) → x < 97 → small x ≡ false
-small-before x h = rw (lt-leb 97 x h)
 
 small-means : (x : ℕ) → small x ≡ true → (97 ≤ x) × (x ≤ 122)
 small-means x e = go (leb 97 x) (leb x 122) refl refl e
@@ -31,6 +20,19 @@ small-means x e = go (leb 97 x) (leb x 122) refl refl e
     go true true p q e = (leb-true 97 x p, leb-true x 122 q)
     go true false p q e = let z : _≡_ {A = ℕ} 0 1 = cc in absurd (omega arith)
     go false b p q e = let z : _≡_ {A = ℕ} 0 1 = cc in absurd (omega arith)
+
+none : (x : ℕ) → (small x ≡ true → ⊥) → small x ≡ false
+none x f = go (small x) f
+  where
+    go : (b : Bool) → (b ≡ true → ⊥) → b ≡ false
+    go true f = absurd (f refl)
+    go false f = refl
+
+pub small-past : (x : ℕ) → 122 < x → small x ≡ false
+small-past x h = none x (λ e. omega (arith, small-means x e .1))
+
+small-before : (x : ℕ) → x < 97 → small x ≡ false
+small-before x h = none x (λ e. omega (arith, small-means x e .0))
 
 raised-small : (x : ℕ) → small x ≡ true → raised x ≡ x - 32
 unfolding raised

@@ -2,7 +2,8 @@
 // `printing::print`; what each answer means in 01's numbers is `specs/Encoding.antt` and `specs/Printing.antt`.
 use signals::Case;
 
-// What a byte is to the encoder: no character, one that needs no case, or one that needs the case named; and its signal's word.
+// What a byte is to the encoder: no character, one that needs no case, or one that needs the case named; and its signal's word. A
+// small letter is what its capital is.
 pub enum Character {
     Without,
     Either(u8),

@@ -1,10 +1,9 @@
 -- `characters::four_listed` meets its contract: where the four are below 128, their entries are what is tested. Assumes nothing.
-use mathlib.Core.Path.{_≡_, refl}
-use mathlib.Core.Bool.{true, false}
+use mathlib.Core.Path.{_≡_}
+use mathlib.Core.Bool.{true}
 use Prim.Native.Nat.{ℕ}
 use native.Mathlib.Omega.{arith}
-use lib.Dec.{ltb, leb}
-use lib.ListN.{getD}
+use lib.Dec.{ltb}
 use borrow.Author.Tests.{ltb-true}
 use Rattle.characters.proofs.JudgeLaws.{all-four}
 use Rattle.characters.proofs.four_listed.Statement.{statement}

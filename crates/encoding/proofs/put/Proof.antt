@@ -1,21 +1,15 @@
 -- `encoding::put` meets its contract: the shift, if one is needed, and then the signal. Assumes nothing.
-use mathlib.Core.Path.{_≡_, refl, sym, _∙_}
+use mathlib.Core.Path.{refl, sym, _∙_}
 use mathlib.Core.List.{[], _∷_}
 use Prim.Native.Nat.{_+_}
 use native.Mathlib.Omega.{arith}
 use lib.ListN.{length-set}
 use Rattle.laws.proofs.Writes.{wrote-then}
-use Rattle.text.specs.Encoding.{characterOf, signalsFor, caseAfter}
 use Rattle.text.specs.Shifts.{shiftTo, other}
 use Rattle.characters.proofs.CharacterLaws.{stands, shifts}
 use borrow.Author.Needs.{needs}
 use Rattle.encoding.proofs.put.Statement.{statement}
 use Rattle.encoding.proofs.put.Tie as tie
-use Rattle.encoding.proofs.put.Reads as reads
-use Rattle.encoding.proofs.put.Lts as lts
-use Rattle.encoding.proofs.needs_shift.Reads as needs-shift-reads
-use Rattle.encoding.proofs.other_case.Reads as other-case-reads
-use Rattle.encoding.proofs.shift_to.Reads as shift-to-reads
 
 slice-write-room : tie.Need-slice-write-room
 slice-write-room c =
