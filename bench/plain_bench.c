@@ -37,8 +37,8 @@ static uint32_t mix_refusal(uint32_t sum, answer given)
 
 /* --- What is drawn from --- */
 
-/* Every byte that encode accepts, ascending: 52 of them, which are 5, 7, 10, 13,
- * space, ' ( ) + , - . / 0 1 2 3 4 5 6 7 8 9 : = ? and A to Z. */
+/* Every byte that encode accepts but small letters, ascending: 52, which are 5, 7,
+ * 10, 13, space, ' ( ) + , - . / 0 1 2 3 4 5 6 7 8 9 : = ? and A to Z. */
 static const uint8_t ALPHABET[52] = {
     5, 7, 10, 13, 32, 39, 40, 41, 43, 44, 45, 46, 47,
     48, 49, 50, 51, 52, 53, 54, 55, 56, 57, 58, 61, 63,

@@ -18,7 +18,7 @@ use text::Printed;
 ghost use Prim.Native.Nat.{_<_};
 ghost use Rattle.io.specs.Counts.{Counts};
 
-// Every character that has a signal, and every traffic signal, both ascending.
+// Every character that has a signal, small letters apart, and every traffic signal, both ascending.
 const ALPHABET: [u8; 52] = [
     5,
     7,

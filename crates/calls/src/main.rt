@@ -113,6 +113,7 @@ fn fill(room: &mut [u8], size: usize) -> usize
     i
 }
 
+// The call of a record of kind E, which takes small letters as the capitals, or of kind P.
 fn put_call(line: &mut [u8], kind: u8, case: Case, list: &[u8], room: &mut [u8]) -> usize {
     if kind == b'E' {
         return put_encoded(line, encoding::encode(list, case, room));

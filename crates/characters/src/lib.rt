@@ -1,5 +1,5 @@
-// The characters that have a signal (01, Text; 02, T-01): a table from each byte to the number of its signal, small letters as
-// the capitals, and the first byte of a text that has none (Numbers returned, 1).
+// The characters that have a signal (01, Text; 02, T-01): a table from each byte below 128 to the number of its signal, small
+// letters as the capitals, and the first byte of a text that has none (Numbers returned, 1).
 ghost use mathlib.Core.Bool.{true};
 ghost use mathlib.Core.Path.{_≡_};
 ghost use Prim.Native.Nat.{_+_, _≤_};
@@ -9,13 +9,14 @@ ghost use Rattle.text.specs.Encoding.{hasSignal};
 ghost use Rattle.characters.specs.Holder.{Numbers, numbered};
 
 // An entry of the table is 128 and the number of the signal that has the byte as a character; 0 where none has. So the top bit
-// tells whether one has, and four bytes are judged by one test of it.
+// tells whether one has, and the compiler makes one test of those of four bytes.
 const LISTED: u8 = 128;
 
 // The entry of a byte that signal 1 has: entries less this are places in the table of rows.
 pub const ENTRY_OF_FIRST: usize = 129;
 
-// Every byte from 0 to 127. No byte over 122 has a signal, and the bound is 128 since one test then tells it of four bytes.
+// Every byte from 0 to 127. No byte over 122 has a signal; the table goes on to 127, since the compiler then makes one test of
+// whether four bytes are within it.
 const NUMBER: [u8; 128] = [
     0,
     0,
@@ -154,7 +155,7 @@ pub fn numbers() -> [u8; 128]
     NUMBER
 }
 
-// Whether the lent table gives the byte a number. It has no entry for a byte over 127, which is none of ours in any code.
+// Whether the lent table gives the byte a number. The table ends at 127; no byte over it has a signal.
 fn listed(byte: u8, numbers: &[u8; 128]) -> bool
     ensures { λ r. ⌜ r ≡ numbered (now (numbers .entry)) byte ⌝ }
 {
@@ -177,7 +178,7 @@ fn four_listed(a: u8, b: u8, c: u8, d: u8, numbers: &[u8; 128]) -> bool
     false
 }
 
-// How far the text has numbers by fours: the place of the first four that have not, or of those behind the last four.
+// How far the text is known to have numbers, looked at by fours: each byte before that place has one.
 fn fours_listed(text: &[u8], numbers: &[u8; 128]) -> usize
     ensures { λ r. ⌜ (r ≤ length (now (text .entry))) × (r + firstNot (numbered (now (numbers .entry))) (drop r (now (text .entry))) ≡ firstNot (numbered (now (numbers .entry))) (now (text .entry))) ⌝ }
 {

@@ -139,8 +139,8 @@ fn write(text: &[u8], numbers: &[u8; 128], rows: [Row; 35], case: Case, room: &m
 }
 
 // Encodes `text`, which starts in `case`, into `room` (01, Text), small letters as the capitals (02, T-01): answers how many signals
-// were written and the case after the last. Refuses 5, then 1, then 2 (01, Numbers returned), the index beside 1 being that in the
-// text as it was typed; a refusal leaves the room as it was.
+// were written and the case after the last. Printing them from that case gives the text in capitals. Refuses 5, then 1, then 2 (01,
+// Numbers returned), the index beside 1 being that in the text as it was typed; a refusal leaves the room as it was.
 pub fn encode(text: &[u8], case: Case, room: &mut [u8]) -> Encoded
     ensures { λ r. ⌜ Encodes (now (text .entry)) case (now (room .entry)) r (now (room .exit)) ⌝ }
 {

@@ -1,5 +1,4 @@
 -- 01, Worked examples: 'P, from letters: "A1" gives 71 54 46; "1 2" gives 54 46 92 39; "" gives none.'  R-141
--- 02, T-01: 'its example "a", now 71'  R-142
 -- Assumes nothing.
 use mathlib.Core.Bool.{Bool, true, false, _&&_}
 use mathlib.Core.List.{List, [], _∷_}
@@ -31,5 +30,4 @@ textExamples =
     gives (65 ∷ 49 ∷ []) (71 ∷ 54 ∷ 46 ∷ [])  -- "A1"
     ∷ gives (49 ∷ 32 ∷ 50 ∷ []) (54 ∷ 46 ∷ 92 ∷ 39 ∷ [])  -- "1 2"
     ∷ gives [] []  -- ""
-    ∷ gives (97 ∷ []) (71 ∷ [])  -- "a"
     ∷ []

@@ -1,4 +1,4 @@
-// Runs 01's worked examples that are not proved, and the limits of printing and of mode B, and writes what each gives.
+// Runs 01's worked examples that are not proved, a byte that has no signal, and the limits of printing and of mode B, and writes what each gives.
 use filters::Stream;
 use mode_a::Number;
 use mode_a::Offer;
@@ -58,7 +58,7 @@ fn put_word(line: &mut [u8], at: usize, word: u8) -> usize {
     filters::put_decimal(line, to, word as u64)
 }
 
-// A small letter is taken as its capital (02, T-01): what it gives, and the word.
+// 01's example "a", as 02, T-01 has it: what it gives, and the word.
 fn small_letter(line: &mut [u8], at: usize) -> usize {
     let mut room = [0u8; 2];
     let answer = encoding::encode(b"a", Case::Letters, &mut room);

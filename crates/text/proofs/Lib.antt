@@ -4,10 +4,10 @@
 --     EncodingLaws   encoding is such a walk; how long it gets
 --     PrintingLaws   printing is such a walk
 --     RaisedLaws     a number raised: what is no small letter stays, and once is enough
---     CharacterLaws  what holds of every character: printing its signals gives it back
+--     CharacterLaws  what holds of every character: printing its signals gives it back, a small letter as its capital
 --     ShiftLaws      a shift stands only where it is needed
 --     RoundTrip      printing an encoded text gives the text in capitals
---     Raised         which bytes are taken; a text is answered as the text in capitals is
+--     Raised         which bytes have a signal; a text is answered as the text in capitals is
 --     Unique         no second answer satisfies the promise of encode, or of print
 --     Refuted        wrong programs of another shape, told from the right one
 pub mod WalkLaws

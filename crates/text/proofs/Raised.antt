@@ -1,46 +1,28 @@
 -- 02, T-01: "Encoding is to take a to z as the capitals".
---     raised-letters   a to z, one after the other, become A to Z
---     raised-others    every other number stays
---     taken-bytes      the bytes that have a signal are those of `Taken`, and no other number has one
---     raised-alike     a text is answered as the text in capitals is: signals, case, room, each refusal and the value beside it
+--     small-letters         what is small is a to z, byte by byte
+--     raised-letters        these, one after the other, become A to Z
+--     raised-others         every other number stays
+--     small-has             each of a to z has a signal
+--     bytes-with-signals    the bytes that have a signal are those of `Bytes`, and no other number has one
+--     raised-alike          a text is answered as the text in capitals is: signals, case, room, each refusal and the value beside it
+--     a-gives-71            01's example, as 02 has it
 -- Assumes nothing.
 use mathlib.Core.Path.{_≡_, refl, ap, sym, _∙_}
-use mathlib.Core.Bool.{Bool, true, false, _&&_, _||_}
+use mathlib.Core.Bool.{Bool, true, false, not, _&&_, _||_}
 use mathlib.Core.List.{List, [], _∷_, map}
 use Prim.Native.Nat.{ℕ, _≤_}
 use native.Mathlib.Omega.{arith}
-use lib.Dec.{T, eqb, ltb, ltb→lt}
-use borrow.Author.Tests.{ne-eqb, eqb-true, ltb-true, ltb-false}
+use lib.Dec.{T, ltb, ltb→lt}
+use borrow.Author.Tests.{ne-eqb, ltb-true, ltb-false}
 use Rattle.laws.proofs.Below.{both-left, both-right}
 use Rattle.laws.proofs.Table.{tabFrom, same-table}
 use Rattle.signals.specs.declared.Case.{Case}
-use Rattle.signals.specs.Numbers.{firstNot}
-use Rattle.text.specs.Encoding.{raised, characterOf, hasSignal, caseAfter, encoded, endsEncoded, encoding}
-use Rattle.text.specs.Taken.{capitalsTaken, smallTaken, taken, among}
-use Rattle.text.proofs.RaisedLaws.{raised-stays, small-past, raised-twice, length-raised}
+use Rattle.signals.specs.declared.Case.the-variants.{Letters}
+use Rattle.signals.specs.Numbers.{answered, firstNot}
+use Rattle.text.specs.Encoding.{small, raised, characterOf, hasSignal, caseAfter, encoded, endsEncoded, encoding}
+use Rattle.text.specs.Bytes.{capitals, smallLetters, bytesWithSignals, among}
+use Rattle.text.proofs.RaisedLaws.{raised-stays, small-past, small-low, raised-twice, length-raised}
 use Rattle.text.proofs.CharacterLaws.{past-none}
-
-pub raised-letters : map raised smallTaken ≡ capitalsTaken
-unfolding raised
-raised-letters = refl
-
-others-below : tabFrom (λ x. among smallTaken x || eqb (raised x) x) 128 0 ≡ tabFrom (λ x. true) 128 0
-unfolding raised
-others-below = refl
-
-pub raised-others : (x : ℕ) → among smallTaken x ≡ false → raised x ≡ x
-raised-others x none = go (ltb x 128) refl
-  where
-    go : (b : Bool) → ltb x 128 ≡ b → raised x ≡ x
-    go true p =
-        let t = same-table (λ x. among smallTaken x || eqb (raised x) x) (λ x. true) 128 true others-below x (ltb-true x 128 p) in
-        eqb-true (raised x) x (rw none at t)
-    go false p = raised-stays x (small-past x (let h = ltb-false x 128 p in omega arith))
-
--- below 128 both are computed
-taken-below : tabFrom hasSignal 128 0 ≡ tabFrom (among taken) 128 0
-unfolding characterOf raised
-taken-below = refl
 
 low : List ℕ → Bool
 low [] = true
@@ -53,15 +35,48 @@ past-list (y ∷ ys) x t h =
     let less = ltb→lt y 128 (both-left (ltb y 128) (low ys) t) in
     rw (ne-eqb x y (λ e. omega arith)) (past-list ys x (both-right (ltb y 128) (low ys) t) h)
 
-pub taken-bytes : (x : ℕ) → hasSignal x ≡ among taken x
+small-below : tabFrom small 128 0 ≡ tabFrom (among smallLetters) 128 0
+small-below = refl
+
+pub small-letters : (x : ℕ) → small x ≡ among smallLetters x
 unfolding low
-taken-bytes x = go (ltb x 128) refl
+small-letters x = go (ltb x 128) refl
   where
-    go : (b : Bool) → ltb x 128 ≡ b → hasSignal x ≡ among taken x
-    go true p = same-table hasSignal (among taken) 128 false taken-below x (ltb-true x 128 p)
+    go : (b : Bool) → ltb x 128 ≡ b → small x ≡ among smallLetters x
+    go true p = same-table small (among smallLetters) 128 false small-below x (ltb-true x 128 p)
     go false p =
         let h = ltb-false x 128 p in
-        past-none x h ∙ sym (past-list taken x tt h)
+        small-past x (omega arith) ∙ sym (past-list smallLetters x tt h)
+
+pub raised-letters : map raised smallLetters ≡ capitals
+unfolding raised
+raised-letters = refl
+
+pub raised-others : (x : ℕ) → among smallLetters x ≡ false → raised x ≡ x
+raised-others x none = raised-stays x (small-letters x ∙ none)
+
+has-below : tabFrom (λ x. not (small x) || hasSignal x) 128 0 ≡ tabFrom (λ x. true) 128 0
+unfolding characterOf raised
+has-below = refl
+
+pub small-has : (x : ℕ) → small x ≡ true → hasSignal x ≡ true
+small-has x e =
+    rw e at (same-table (λ x. not (small x) || hasSignal x) (λ x. true) 128 true has-below x (small-low x e))
+
+-- below 128 both are computed
+signals-below : tabFrom hasSignal 128 0 ≡ tabFrom (among bytesWithSignals) 128 0
+unfolding characterOf raised
+signals-below = refl
+
+pub bytes-with-signals : (x : ℕ) → hasSignal x ≡ among bytesWithSignals x
+unfolding low
+bytes-with-signals x = go (ltb x 128) refl
+  where
+    go : (b : Bool) → ltb x 128 ≡ b → hasSignal x ≡ among bytesWithSignals x
+    go true p = same-table hasSignal (among bytesWithSignals) 128 false signals-below x (ltb-true x 128 p)
+    go false p =
+        let h = ltb-false x 128 p in
+        past-none x h ∙ sym (past-list bytesWithSignals x tt h)
 
 character-raised : (x : ℕ) → characterOf (raised x) ≡ characterOf x
 unfolding characterOf
@@ -87,3 +102,7 @@ pub raised-alike : (text : List ℕ) (c : Case) (room : ℕ) → encoding (map r
 unfolding encoding
 raised-alike text c room =
     rw (length-raised text, first-raised text, encoded-raised c text, ends-raised c text)
+
+pub a-gives-71 : encoding (97 ∷ []) Letters 1 ≡ answered (record { bytes = 71 ∷ []; ends = Letters })
+unfolding encoding firstNot encoded endsEncoded characterOf raised
+a-gives-71 = refl

@@ -21,6 +21,9 @@ small-means x e = go (leb 97 x) (leb x 122) refl refl e
     go true false p q e = let z : _≡_ {A = ℕ} 0 1 = cc in absurd (omega arith)
     go false b p q e = let z : _≡_ {A = ℕ} 0 1 = cc in absurd (omega arith)
 
+pub small-low : (x : ℕ) → small x ≡ true → x < 128
+small-low x e = omega (arith, small-means x e .1)
+
 none : (x : ℕ) → (small x ≡ true → ⊥) → small x ≡ false
 none x f = go (small x) f
   where

@@ -9,28 +9,33 @@
 --     no-touch-beyond         an encoder that clears the room beyond the part written
 --     no-trailing-shift       an encoder that goes back to letters at the end
 -- and of small letters (02, T-01):
---     no-letter-refused       an encoder that refuses small letters, or one of them: here q
+--     no-letter-refused       an encoder that refuses a small letter, any one of them
 --     no-96, no-123           one that takes the byte before a, or the byte behind z
---     no-low-seven-bits       one that takes a byte over 127 by its low seven bits: 239 as o; ö is no O
+--     no-byte-over-127        one that takes a byte over 127, as o by the low seven bits of 239, or ö as O
 --     no-digit-touched        one that raises by taking bit 5 off every byte, digits too: 1 would be 17
 --     no-index-of-raised      one that counts raised letters alone for the index of refusal 1
 --     no-case-kept            one that takes small letters in the case in force, without a shift
---     no-text-as-typed        a printer that gives small letters back as they were typed
+--     no-text-as-typed        the claim that printing an encoded text gives it as it was typed
 -- Assumes nothing.
 use mathlib.Core.Path.{_≡_, ap}
+use mathlib.Core.Bool.{Bool, true, false}
 use mathlib.Core.List.{List, [], _∷_}
-use Prim.Native.Nat.{ℕ}
+use Prim.Native.Nat.{ℕ, _<_}
 use native.Mathlib.Omega.{arith}
-use lib.ListN.{replicate, getD}
+use lib.Dec.{ltb}
+use lib.ListN.{length, replicate, getD}
+use Rattle.laws.specs.Choice.{if_then_else_}
 use Rattle.signals.specs.declared.Case.{Case}
 use Rattle.signals.specs.declared.Case.the-variants.{Letters}
 use Rattle.signals.specs.Meaning.{meaningOf, trafficOf}
 use Rattle.signals.specs.Numbers.{Answer, answered, refused, firstNot}
 use Rattle.text.specs.declared.Encoded.{Encoded}
 use Rattle.text.specs.declared.Printed.{Printed}
-use Rattle.text.specs.Written.{Written}
-use Rattle.text.specs.Encoding.{raised, characterOf, encoded, endsEncoded, encoding, Encodes}
+use Rattle.text.specs.Written.{Written, counted}
+use Rattle.text.specs.Encoding.{small, raised, characterOf, encoded, endsEncoded, encoding, Encodes}
 use Rattle.text.specs.Printing.{bytesOf, printed, endsPrinted, mayPrint, printing, Prints}
+use Rattle.text.proofs.CharacterLaws.{past-none}
+use Rattle.text.proofs.Raised.{small-has, a-gives-71}
 
 -- "A", whatever it answers
 pub no-silent-encoder : (r : Encoded) → Encodes (65 ∷ []) Letters (0 ∷ []) r (0 ∷ []) → ⊥
@@ -70,22 +75,30 @@ pub no-trailing-shift : Encodes (49 ∷ []) Letters (0 ∷ 0 ∷ 0 ∷ []) (Enco
 unfolding encoding firstNot encoded endsEncoded characterOf raised
 no-trailing-shift p = let z : _≡_ {A = ℕ} 3 2 = cc (p .0) in omega arith
 
-pub no-letter-refused : Encodes (113 ∷ []) Letters (0 ∷ []) (Encoded.NoSignal 0) (0 ∷ []) → ⊥
-unfolding encoding firstNot encoded endsEncoded characterOf raised
-no-letter-refused p = let z : _≡_ {A = ℕ} 0 46 = cc (p .1) in omega arith
+pub no-letter-refused : (x : ℕ) → small x ≡ true → (c : Case) (room after : List ℕ) (i : ℕ) → Encodes (x ∷ []) c room (Encoded.NoSignal i) after → ⊥
+unfolding encoding firstNot
+no-letter-refused x s c room after i p =
+    go (ltb (length room) (length (encoded c (x ∷ [])))) (length (encoded c (x ∷ []))) (record { bytes = encoded c (x ∷ []); ends = endsEncoded c (x ∷ []) }) (rw (small-has x s) at (p .0))
+  where
+    go : (b : Bool) (n : ℕ) (w : Written) → refused 1 i ≡ counted (if b then refused 2 n else answered w) → ⊥
+    go true n w e = let z : _≡_ {A = ℕ} 1 2 = cc in omega arith
+    go false n w e = let z : _≡_ {A = ℕ} 0 1 = cc in omega arith
 
 -- whatever it writes
-pub no-96 : (room after : List ℕ) (n : ℕ) (c : Case) → Encodes (96 ∷ []) Letters room (Encoded.Written n c) after → ⊥
-unfolding encoding firstNot encoded endsEncoded characterOf raised
-no-96 room after n c p = let z : _≡_ {A = ℕ} 0 1 = cc in omega arith
+pub no-96 : (c d : Case) (room after : List ℕ) (n : ℕ) → Encodes (96 ∷ []) c room (Encoded.Written n d) after → ⊥
+unfolding encoding firstNot characterOf raised
+no-96 c d room after n p = let z : _≡_ {A = ℕ} 0 1 = cc in omega arith
 
-pub no-123 : (room after : List ℕ) (n : ℕ) (c : Case) → Encodes (123 ∷ []) Letters room (Encoded.Written n c) after → ⊥
-unfolding encoding firstNot encoded endsEncoded characterOf raised
-no-123 room after n c p = let z : _≡_ {A = ℕ} 0 1 = cc in omega arith
+pub no-123 : (c d : Case) (room after : List ℕ) (n : ℕ) → Encodes (123 ∷ []) c room (Encoded.Written n d) after → ⊥
+unfolding encoding firstNot characterOf raised
+no-123 c d room after n p = let z : _≡_ {A = ℕ} 0 1 = cc in omega arith
 
-pub no-low-seven-bits : (room after : List ℕ) (n : ℕ) (c : Case) → Encodes (239 ∷ []) Letters room (Encoded.Written n c) after → ⊥
-unfolding encoding firstNot encoded endsEncoded characterOf raised
-no-low-seven-bits room after n c p = let z : _≡_ {A = ℕ} 0 1 = cc in omega arith
+pub no-byte-over-127 : (x : ℕ) → 127 < x → (c d : Case) (room after : List ℕ) (n : ℕ) → Encodes (x ∷ []) c room (Encoded.Written n d) after → ⊥
+unfolding encoding firstNot
+no-byte-over-127 x h c d room after n p = go (rw (past-none x h) at (p .0))
+  where
+    go : answered (record { count = n; ends = d }) ≡ counted (refused 1 0) → ⊥
+    go e = let z : _≡_ {A = ℕ} 0 1 = cc in omega arith
 
 pub no-digit-touched : Encodes (49 ∷ []) Letters (0 ∷ 0 ∷ []) (Encoded.NoSignal 0) (0 ∷ 0 ∷ []) → ⊥
 unfolding encoding firstNot encoded endsEncoded characterOf raised
@@ -101,11 +114,13 @@ pub no-case-kept : (r : Encoded) → Encodes (49 ∷ 97 ∷ []) Letters (0 ∷ 0
 unfolding encoding firstNot encoded endsEncoded characterOf raised
 no-case-kept r p = let z : _≡_ {A = ℕ} 71 90 = cc (p .1) in omega arith
 
--- "a" is the word 71
+-- of "a"
 byteOf : Answer Written → ℕ
 byteOf (answered w) = getD (w .bytes) 0 0
 byteOf (refused n v) = 0
 
-pub no-text-as-typed : printing (71 ∷ []) Letters 1 ≡ answered (record { bytes = 97 ∷ []; ends = Letters }) → ⊥
+pub no-text-as-typed : ((t : Written) → encoding (97 ∷ []) Letters 1 ≡ answered t → printing (t .bytes) Letters 1 ≡ answered (record { bytes = 97 ∷ []; ends = t .ends })) → ⊥
 unfolding printing firstNot mayPrint trafficOf meaningOf printed endsPrinted bytesOf byteOf
-no-text-as-typed p = let z : _≡_ {A = ℕ} 65 97 = ap byteOf p in omega arith
+no-text-as-typed claim =
+    let z : _≡_ {A = ℕ} 65 97 = ap byteOf (claim (record { bytes = 71 ∷ []; ends = Letters }) a-gives-71) in
+    omega arith

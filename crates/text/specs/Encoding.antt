@@ -27,7 +27,7 @@ characterIn (lone w l ∷ ss) x = if eqb x l then Needing Letters w else charact
 characterIn (free w c ∷ ss) x = if eqb x c then Either w else characterIn ss x
 characterIn (mute w ∷ ss) x = characterIn ss x
 
--- 02, T-01: "Encoding is to take a to z as the capitals": 97 to 122 become 65 to 90, every other byte stays
+-- 02, T-01: "Encoding is to take a to z as the capitals": 97 to 122 become 65 to 90, every other byte stays  R-027
 abbrev pub small : ℕ → Bool
 small x = leb 97 x && leb x 122
 
