@@ -49,7 +49,7 @@ SIGNAL_OF = signals_of_characters()
 def raised(character):
     """02, T-01: "Encoding is to take a to z as the capitals".  These 26 bytes and
     no other: 96 and 123 beside them have no signal, and no byte over 127 has one.
-    A letter with a mark is none of the 26, in whatever code it comes."""
+    A letter with a mark is none of the 26, and is not guessed at."""
     if ord("a") <= character <= ord("z"):
         return character - ord("a") + ord("A")
     return character
