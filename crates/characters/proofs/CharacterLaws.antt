@@ -9,7 +9,7 @@ use native.Mathlib.Numerals.{sub-one}
 use native.Mathlib.Omega.{arith}
 use lib.Dec.{eqb, ltb, leb, leb→le}
 use lib.ListN.{getD}
-use borrow.Author.Tests.{ne-eqb, ltb-true, ltb-false}
+use borrow.Author.Tests.{eq-eqb, ne-eqb, lt-ltb, le-ltb, lt-leb, le-leb, ltb-true, ltb-false}
 use Rattle.laws.specs.Choice.{if_then_else_}
 use Rattle.laws.proofs.Below.{at-below}
 use Rattle.laws.proofs.Table.{tabFrom, same-table}
@@ -31,7 +31,7 @@ turned c x = (signalsFor c (characterOf x), caseAfter c (characterOf x))
 
 -- Of the bytes with a signal those from 65 on are letters; one below is a figure, unless it stands in the letter column too and is
 -- the same in either case.
-abbrev pub needsShift : Case → Row → ℕ → Bool
+abbrev needsShift : Case → Row → ℕ → Bool
 needsShift Letters r x = ltb x 65 && not (eqb (r .1) x)
 needsShift Figures r x = leb 65 x
 
@@ -69,31 +69,20 @@ module _ (x : ℕ) (has : hasSignal x ≡ true) where
   pub low : x < 128
   low = signal-is-low x has
 
-  holder-le : holderOf x ≤ 35
+  pub holder-le : holderOf x ≤ 35
   unfolding holderOf raised
   holder-le = leb→le _ _ (at-below (λ x. leb (holderOf x) 35) 128 tt x low)
 
-  holder-pos : 0 < holderOf x
+  pub holder-pos : 0 < holderOf x
   holder-pos = ltb-true 0 (holderOf x) (same-table (λ x. ltb 0 (holderOf x)) hasSignal 128 false same-has x low ∙ has)
 
-  -- n is the entry read off the table
-  module _ (n : ℕ) (e : n ≡ entryOf x) where
-    is : n ≡ 128 + holderOf x
-    is = rw (ne-eqb (holderOf x) 0 (λ z. omega (arith, holder-pos))) at e
+  -- its entry in the table
+  pub entry-is : entryOf x ≡ 128 + holderOf x
+  entry-is = rw (ne-eqb (holderOf x) 0 (λ z. omega (arith, holder-pos)))
 
-    pub entry-pos : 129 ≤ n
-    entry-pos = omega (arith, is, holder-pos)
-
-    pub entry-le : n ≤ 163
-    entry-le = omega (arith, is, holder-le)
-
-    pub place-below : n - 129 < 35
-    place-below = omega (arith, is, holder-le)
-
-    pub has-row : (r : Row) → r ≡ rowOf (n - 129) → HasRow x r
-    has-row r p =
-        let place : n - 129 ≡ holderOf x - 1 = omega (arith, is) in
-        record { has = has; row = p ∙ ap rowOf place }
+  -- the row at its signal's place
+  pub has-row : (place : ℕ) → place ≡ holderOf x - 1 → (r : Row) → r ≡ rowOf place → HasRow x r
+  has-row place e r p = record { has = has; row = p ∙ ap rowOf e }
 
 at-row : (c : Case) (n x : ℕ) → 0 < n → byNumber c n x ≡ byRow c (rowOf (n - 1)) x
 unfolding byNumber
@@ -115,9 +104,8 @@ module _ (x : ℕ) (r : Row) (h : HasRow x r) (c : Case) where
       ∙ sym (at-row c (holderOf x) x (holder-pos x (h .has)))
       ∙ same-table (λ x. byNumber c (holderOf x) x) (turned c) 128 ([], c) (same c) x (low x (h .has))
 
-  -- the case after it, and by that its signals
-  pub case-after : caseAfter c (characterOf x) ≡ (if needsShift c r x then other c else c)
-  case-after = go (needsShift c r x) read
+  after : caseAfter c (characterOf x) ≡ (if needsShift c r x then other c else c)
+  after = go (needsShift c r x) read
     where
       go : (b : Bool) → (if b then (shiftTo (other c) ∷ r .0 ∷ [], other c) else (r .0 ∷ [], c)) ≡ turned c x → caseAfter c (characterOf x) ≡ (if b then other c else c)
       go true e = ap (λ (t : Turned). t .1) (sym e)
@@ -135,3 +123,21 @@ module _ (x : ℕ) (r : Row) (h : HasRow x r) (c : Case) where
 
   pub shifts : caseAfter c (characterOf x) ≡ other c → signalsFor c (characterOf x) ≡ shiftTo (other c) ∷ r .0 ∷ []
   shifts e = shift-then ∙ rw (e, shift-one c)
+
+-- the case after a letter, after a figure, and after what is the same in either case
+module _ (x : ℕ) (r : Row) (h : HasRow x r) where
+  pub after-letter : 65 ≤ x → (c : Case) → caseAfter c (characterOf x) ≡ Letters
+  after-letter l Letters = rw (le-ltb x 65 l) at (after x r h Letters)
+  after-letter l Figures = rw (le-leb 65 x l) at (after x r h Figures)
+
+  pub after-figure : x < 65 → (r .1 ≡ x → ⊥) → (c : Case) → caseAfter c (characterOf x) ≡ Figures
+  after-figure l n Letters = rw (lt-ltb x 65 l, ne-eqb (r .1) x n) at (after x r h Letters)
+  after-figure l n Figures = rw (lt-leb 65 x l) at (after x r h Figures)
+
+  pub after-same : x < 65 → r .1 ≡ x → (c : Case) → caseAfter c (characterOf x) ≡ c
+  after-same l e Letters = rw (lt-ltb x 65 l, eq-eqb (r .1) x e) at (after x r h Letters)
+  after-same l e Figures = rw (lt-leb 65 x l) at (after x r h Figures)
+
+  -- in figures case the last two are one
+  pub stays-figures : x < 65 → caseAfter Figures (characterOf x) ≡ Figures
+  stays-figures l = rw (lt-leb 65 x l) at (after x r h Figures)

@@ -4,7 +4,9 @@ use mathlib.Core.Bool.{Bool, true, false, _&&_}
 use mathlib.Core.List.{List, [], _∷_}
 use Prim.Native.Nat.{ℕ, _+_, _<_, _≤_}
 use native.Mathlib.Omega.{arith}
+use lib.Dec.{ltb}
 use lib.ListN.{length, getD, drop}
+use borrow.Author.Tests.{ltb-true}
 use Rattle.signals.specs.Numbers.{firstNot}
 use Rattle.signals.proofs.NumberLaws.{first-next, first-here, first-end}
 
@@ -56,3 +58,8 @@ all-four true true true false e = let z : _≡_ {A = ℕ} 0 1 = cc in absurd (om
 all-four true true false d e = let z : _≡_ {A = ℕ} 0 1 = cc in absurd (omega arith)
 all-four true false c d e = let z : _≡_ {A = ℕ} 0 1 = cc in absurd (omega arith)
 all-four false b c d e = let z : _≡_ {A = ℕ} 0 1 = cc in absurd (omega arith)
+
+pub four-below : (a b c d j k l m : ℕ) → (((ltb a j && ltb b k) && ltb c l) && ltb d m) ≡ true → (a < j) × (b < k) × (c < l) × (d < m)
+four-below a b c d j k l m e =
+    let t = all-four (ltb a j) (ltb b k) (ltb c l) (ltb d m) e in
+    (ltb-true a j (t .0), ltb-true b k (t .1), ltb-true c l (t .2), ltb-true d m (t .3))

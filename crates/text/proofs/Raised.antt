@@ -6,6 +6,8 @@
 --     bytes-with-signals    the bytes that have a signal are those of `Bytes`, and no other number has one
 --     raised-alike          a text is answered as the text in capitals is: signals, case, room, each refusal and the value beside it
 --     a-gives-71            01's example, as 02 has it
+--     index-as-typed        "aB{" is refused at 2, from either case and whatever the room: every character counts
+--     shift-before-small    "1a" has a shift to letters before the a, as "1A" has
 -- Assumes nothing.
 use mathlib.Core.Path.{_≡_, refl, ap, sym, _∙_}
 use mathlib.Core.Bool.{Bool, true, false, not, _&&_, _||_}
@@ -18,7 +20,7 @@ use Rattle.laws.proofs.Below.{both-left, both-right}
 use Rattle.laws.proofs.Table.{tabFrom, same-table}
 use Rattle.signals.specs.declared.Case.{Case}
 use Rattle.signals.specs.declared.Case.the-variants.{Letters}
-use Rattle.signals.specs.Numbers.{answered, firstNot}
+use Rattle.signals.specs.Numbers.{answered, refused, firstNot}
 use Rattle.text.specs.Encoding.{small, raised, characterOf, hasSignal, caseAfter, encoded, endsEncoded, encoding}
 use Rattle.text.specs.Bytes.{capitals, smallLetters, bytesWithSignals, among}
 use Rattle.text.proofs.RaisedLaws.{raised-stays, small-past, small-low, raised-twice, length-raised}
@@ -106,3 +108,11 @@ raised-alike text c room =
 pub a-gives-71 : encoding (97 ∷ []) Letters 1 ≡ answered (record { bytes = 71 ∷ []; ends = Letters })
 unfolding encoding firstNot encoded endsEncoded characterOf raised
 a-gives-71 = refl
+
+pub index-as-typed : (c : Case) (room : ℕ) → encoding (97 ∷ 66 ∷ 123 ∷ []) c room ≡ refused 1 2
+unfolding encoding firstNot characterOf raised
+index-as-typed c room = refl
+
+pub shift-before-small : encoding (49 ∷ 97 ∷ []) Letters 4 ≡ answered (record { bytes = 54 ∷ 46 ∷ 90 ∷ 71 ∷ []; ends = Letters })
+unfolding encoding firstNot encoded endsEncoded characterOf raised
+shift-before-small = refl
