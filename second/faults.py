@@ -225,6 +225,37 @@ fault("encoding: the room for small letters is not asked for", "calls E", "text"
 fault("letters are printed small", "print, calls P, hear", "text",
       "return ord(letter), \"letters\"", "return ord(letter.lower()), \"letters\"")
 
+# --- Text: several characters at a time ---
+
+# Where a byte without a signal is refused.
+FIRST_REFUSED = "            return Refused(1, index)\n"
+
+
+def not_judged(which):
+    """`which` tells, of the index, the characters that are not judged.  Where
+    one of them has no signal it is skipped."""
+    return ("            if not (%s):\n"
+            "                return Refused(1, index)\n"
+            "    characters = [one for one in characters"
+            " if raised(one) in SIGNAL_OF]\n" % which)
+
+
+fault("encoding: the characters behind the last whole four are not judged",
+      "encode, calls E", "text",
+      FIRST_REFUSED, not_judged("index >= len(characters) // 4 * 4"))
+# What is left behind the last whole four is judged here.
+fault("encoding: the second of each whole four is not judged",
+      "encode, calls E", "text", FIRST_REFUSED,
+      not_judged("index % 4 == 1 and index < len(characters) // 4 * 4"))
+fault("encoding: refusal 1 tells the index of the first of its four",
+      "encode, calls E", "text",
+      FIRST_REFUSED, "            return Refused(1, index // 4 * 4)\n")
+fault("encoding: the last character of a text of odd length is lost",
+      "encode, calls E", "text",
+      "    signals = []\n    for character in characters:\n",
+      "    signals = []\n"
+      "    for character in characters[:len(characters) // 2 * 2]:\n")
+
 # --- The station: refusals ---
 
 fault("station: refusal 4 gone for the count", "steps", "station",

@@ -164,6 +164,32 @@ def each_small(before, behind):
     return b"".join(before + bytes([byte]) + behind for byte in SMALL)
 
 
+# --- Texts for an encoder that takes several characters at a time ---
+
+# It may judge or write them in groups of two, four, eight or sixteen, and what is
+# left at the end by itself.  Lengths below, at and above a multiple of each:
+GROUP_LENGTHS = [1, 2, 3, 4, 5, 6, 7, 8, 9, 15, 16, 17, 31, 32, 33]
+# The longest of them.  No character but the space stands in it twice, and a
+# shift to either case is needed at each place of a four.
+GROUPED = b"Ab1c 2D,e\r\n34FgH(i)5jK 6:lm7\x07N/o8"
+# Bytes without a signal.  A group filled up with zeros must not let a 0 of the
+# text pass; over 127 a table of 128 entries does not reach.
+NOT_IN_GROUPS = [0, 123, 246]
+# A figure behind a letter and a small letter behind a figure: of either, two
+# signals are missing where the last character is lost.
+GROUP_ENDS = [b"Q9", b"0q"]
+
+
+def all_but(length, index, byte):
+    """A text of which this byte alone has no signal."""
+    return with_byte(GROUPED[:length], index, byte)
+
+
+def ending_in(length, end):
+    """A text of this length, all of it taken, with the end as far as it fits."""
+    return (GROUPED[:max(length - 2, 0)] + end)[max(2 - length, 0):]
+
+
 # --- Numbers written in various ways ---
 
 def plain(words):
@@ -298,6 +324,24 @@ def encode_cases(draw):
         else:
             data = bytes(draw.choices(b"Aa1 \r\n", k=length))
         out.append(quickly("text of %d" % length, data))
+    out.extend(group_cases())
+    return out
+
+
+def group_cases():
+    """A run for each, so not all: `group_records` has every place of every
+    length, and each byte there."""
+    out = []
+    for length in GROUP_LENGTHS:
+        for index in range(0 if length in (5, 6, 7) else length - 1, length):
+            byte = NOT_IN_GROUPS[index % 3]
+            out.append(quickly("%d characters, byte %d at %d"
+                               % (length, byte, index),
+                               all_but(length, index, byte)))
+    for length in range(1, 18):
+        for end in GROUP_ENDS:
+            out.append(quickly("%d characters, the last ones %r" % (length, end),
+                               ending_in(length, end)))
     return out
 
 
@@ -1194,6 +1238,33 @@ def small_letter_records(draw):
     yield with_room(draw, b"E", text.encode, small_letters(draw, 4095) + b"{")
 
 
+def group_records():
+    """E records for an encoder that takes several characters at a time."""
+    for length in GROUP_LENGTHS:
+        for index in range(length):
+            for byte in NOT_IN_GROUPS:
+                # Room for the text, so that only the byte can be what is refused.
+                yield text_record(b"E", (length + index) % 2, 2 * length,
+                                  all_but(length, index, byte))
+    # 01: "index of the first", where a second one stands in the same group or
+    # behind it.
+    for second in range(8):
+        for first in range(second):
+            for one in NOT_IN_GROUPS:
+                for other in NOT_IN_GROUPS:
+                    body = with_byte(all_but(8, first, one), second, other)
+                    yield text_record(b"E", (first + second) % 2, 16, body)
+    # 01: "room beyond the part written is untouched".  The longest room could
+    # take another group of sixteen, a shift before each.
+    for length in list(range(18)) + [31, 32, 33]:
+        for end in GROUP_ENDS:
+            body = ending_in(length, end)
+            for case in (0, 1):
+                needed = room_needed(text.encode, case, body)
+                for room in (max(needed - 1, 0), needed, needed + 1, needed + 32):
+                    yield text_record(b"E", case, room, body)
+
+
 def print_records(draw):
     def make(length):
         return bytes(signals(draw, length))
@@ -1425,6 +1496,13 @@ def calls_at_borders():
     return out
 
 
+def group_calls():
+    records = list(group_records())
+    return [quickly("characters in groups, records from %d on" % start,
+                    b"".join(records[start:start + CALLS_IN_A_CASE]))
+            for start in range(0, len(records), CALLS_IN_A_CASE)]
+
+
 def calls_cases(draw):
     records = (list(encode_records(draw)) + list(print_records(draw))
                + list(slot_records(draw)) + list(meaning_records())
@@ -1440,6 +1518,7 @@ def calls_cases(draw):
         few, more = made_up(size, 4)
         out.append(from_file("%d bytes written" % size, b"MV" * few + b"Me" * more))
     out.extend(calls_at_borders())
+    out.extend(group_calls())
     for start in range(0, len(records), CALLS_IN_A_CASE):
         out.append(quickly("records from %d on" % start,
                            b"".join(records[start:start + CALLS_IN_A_CASE])))

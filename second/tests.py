@@ -1271,8 +1271,9 @@ def inputs_of_receive():
     assert locks_after_an_end > 400 and ends_with_error > 20
 
 
-def inputs_of_small_letters():
-    """02, T-01: for `encode` and for `E` of `calls`."""
+def texts_to_encode():
+    """Of `encode` and of `E` of `calls`: the byte of the case, the room (None of
+    `encode`) and the characters."""
     bodies = {"encode": [(0, None, data) for data in gate_inputs("encode")],
               "calls": []}
     for data in gate_inputs("calls"):
@@ -1281,7 +1282,12 @@ def inputs_of_small_letters():
                 room = data[first + 2] + 256 * data[first + 3]
                 bodies["calls"].append((data[first + 1], room,
                                         data[first + 6:behind]))
-    for name, texts in bodies.items():
+    return bodies
+
+
+def inputs_of_small_letters():
+    """02, T-01: for `encode` and for `E` of `calls`."""
+    for name, texts in texts_to_encode().items():
         in_force = set()        # each character taken, with the case before it
         refused = set()         # the first refused byte behind a small letter
         long_ones = []          # lengths of texts with many, and the refusal or 0
@@ -1315,6 +1321,70 @@ def inputs_of_small_letters():
             assert exact > 500 and one_short > 500
 
 
+def inputs_of_groups():
+    """For an encoder that takes several characters at a time and what is left
+    by itself: for `encode` and for `E` of `calls`."""
+    around = set(range(1, 10)) | {15, 16, 17, 31, 32, 33}
+    for name, texts in texts_to_encode().items():
+        alone = {}              # length and place of the one refused byte: bytes
+        two = set()             # places of two refused bytes among eight
+        ends = {}               # length and what the text ends in: spare rooms
+        for byte, room, characters in texts:
+            length = len(characters)
+            if length > max(around):
+                continue
+            bad = [place for place, one in enumerate(characters)
+                   if one not in TAKEN]
+            if len(bad) == 1:
+                alone.setdefault((length, bad[0]), set()).add(characters[bad[0]])
+            if len(bad) == 2 and length == 8:
+                two.add(tuple(bad))
+            if not bad:
+                case = ("letters", "figures")[byte % 2]
+                # What is in force before the last character, and that character.
+                last = (encoded(case, characters[:-1])[1], characters[-1:])
+                spare = None if room is None else (
+                    room - len(encoded(case, characters)[0]))
+                for end in (("letters", b"9"), ("figures", b"q"), (case, b"")):
+                    if last == end:
+                        ends.setdefault((length, end[1]), set()).add(spare)
+        # At each place of a whole four, and at the very end with none to three
+        # behind the last whole four.
+        assert {place % 4 for length, place in alone
+                if place < length // 4 * 4} == {0, 1, 2, 3}
+        assert {length % 4 for length, place in alone
+                if place == length - 1} == {0, 1, 2, 3}
+        # At the very end of each length, and at each place of it: of `encode`, of
+        # lengths that are a four and one, two and three more.
+        wanted = {(length, length - 1) for length in around}
+        for length in (5, 6, 7) if name == "encode" else around:
+            wanted |= {(length, place) for place in range(length)}
+        assert wanted <= set(alone)
+        # Of each length a text whose last character takes a shift; `encode`
+        # begins in letters, so a single q takes none there.
+        assert {length for length, end in ends if end == b""} == {0}
+        assert set(range(1, 18)) <= {length for length, end in ends if end == b"9"}
+        first = 2 if name == "encode" else 1
+        assert set(range(first, 18)) <= {length for length, end in ends
+                                         if end == b"q"}
+        if name == "calls":
+            # A zero, one that has an entry in a table of 128, one over it.
+            assert all({0, 123, 246} <= alone[one] for one in wanted)
+            assert two == {(one, other) for other in range(8)
+                           for one in range(other)}
+            for length in set(range(1, 18)) | {31, 32, 33}:
+                for end in (b"9", b"q"):
+                    assert {-1, 0, 1, 32} <= ends[length, end]
+    # The text they are made from: a shift to either case at each place of a four.
+    shifts = set()
+    case = "letters"
+    for place in range(len(inputs.GROUPED)):
+        words, case = encoded(case, inputs.GROUPED[place:place + 1])
+        if len(words) == 2:
+            shifts.add((place % 4, case))
+    assert len(shifts) == 8
+
+
 # --- The faults: that one which no input tells is a failure ---
 
 def faults_not_told_are_found():
@@ -1336,6 +1406,37 @@ def faults_not_told_are_found():
         assert len(told) == 1 and told[0].startswith("BAD FAULT: a fault: ")
     for number in (0, 1, 39, 40, 41, 46, 47, 48, 500):
         assert sorted(faults.order_of(number)) == list(range(number))
+
+
+def faults_of_groups_are_told():
+    """The four of faults.py and their like for groups of other sizes, by the
+    short inputs that are there for them, without any other."""
+    group_cases = {"encode": inputs.group_cases(), "calls": inputs.group_calls()}
+    trial = faults.Trial(lambda name: group_cases.get(name, []))
+
+    def told(old, new, *tellers):
+        one = faults.Fault("a fault", tellers, "text", old, new)
+        assert trial.try_fault(one) == [], (new, tellers)
+
+    for size in (2, 4, 8, 16):
+        whole = "len(characters) // %d * %d" % (size, size)
+        both = ("encode", "calls E")
+        told(faults.FIRST_REFUSED, faults.not_judged("index >= " + whole), *both)
+        told("return Refused(1, index)",
+             "return Refused(1, index // %d * %d)" % (size, size), *both)
+        told("return Refused(1, index)",
+             "return Refused(1, index %% %d)" % size, *both)
+        for place in range(size):
+            which = "index %% %d == %d and index < %s" % (size, place, whole)
+            told(faults.FIRST_REFUSED, faults.not_judged(which),
+                 *(both if size <= 4 else ["calls E"]))
+        # Lost: what is left, and the last one of a length of each remainder.
+        told("for character in characters:", "for character in characters[:%s]:"
+             % whole, *both)
+        for left in range(size):
+            told("for character in characters:",
+                 "for character in characters[:len(characters)"
+                 " - (len(characters) %% %d == %d)]:" % (size, left), *both)
 
 
 def faults_of_all_programs():
@@ -1364,8 +1465,8 @@ TESTS = [
     compare_tells_who_does_not_answer,
     inputs_are_bytes, inputs_at_borders, inputs_tell_each_line,
     inputs_of_steps, inputs_of_receive, inputs_of_small_letters,
-    conversations_are_answered,
-    faults_not_told_are_found, faults_of_all_programs,
+    inputs_of_groups, conversations_are_answered,
+    faults_not_told_are_found, faults_of_groups_are_told, faults_of_all_programs,
 ]
 
 
