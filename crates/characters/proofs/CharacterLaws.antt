@@ -111,7 +111,7 @@ module _ (x : ℕ) (r : Row) (h : HasRow x r) (c : Case) where
       go true e = ap (λ (t : Turned). t .1) (sym e)
       go false e = ap (λ (t : Turned). t .1) (sym e)
 
-  pub shift-then : signalsFor c (characterOf x) ≡ shift c (caseAfter c (characterOf x)) ++ r .0 ∷ []
+  shift-then : signalsFor c (characterOf x) ≡ shift c (caseAfter c (characterOf x)) ++ r .0 ∷ []
   shift-then = go (needsShift c r x) read
     where
       go : (b : Bool) → (if b then (shiftTo (other c) ∷ r .0 ∷ [], other c) else (r .0 ∷ [], c)) ≡ turned c x → signalsFor c (characterOf x) ≡ shift c (caseAfter c (characterOf x)) ++ r .0 ∷ []

@@ -59,6 +59,13 @@ pub struct Listed {
     pub event: Event,
 }
 
+// The numbers of a program that takes one list of them: how many, and whether all is well. Where it is not, that was told.
+pub struct ListRead {
+    pub stream: Stream,
+    pub count: usize,
+    pub well: bool,
+}
+
 fn brings(event: Event) -> bool {
     match event {
         Event::Nothing => false,
@@ -482,4 +489,34 @@ pub fn has_words(name: &[u8]) -> bool {
     at = numbers::put_all(&mut line, at, b" < input");
     write_line(&mut line, at, b'2');
     true
+}
+
+// Reads the list of a program that takes no words: words, what is no number and a failed read are told, in this order.
+pub fn list(name: &[u8], input: &mut [u8], output: &[u8], room: &mut [u8]) -> ListRead
+    ensures { λ r. ⌜ Counts (r .count) (now (room .exit)) ⌝ }
+{
+    if has_words(name) {
+        return ListRead {
+            stream: Stream::new(),
+            count: 0,
+            well: false,
+        };
+    }
+    let read = Stream::new().numbers(input, output, room);
+    let count = read.count;
+    let stream = read.stream;
+    let event = read.event;
+    if tell_number(name, event) {
+        return ListRead {
+            stream,
+            count,
+            well: false,
+        };
+    }
+    let well = !stream.failed(name);
+    ListRead {
+        stream,
+        count,
+        well,
+    }
 }

@@ -31,23 +31,16 @@ fn tell(stream: Stream, output: &mut [u8], answer: Printed, room: &[u8]) {
 }
 
 fn main() {
-    if filters::has_words(b"print") {
-        return;
-    }
     let mut input = [0u8; 4096];
     let mut output = [0u8; 4096];
     // one signal over the limit is enough to refuse
     let mut words = [0u8; 8193];
-    let read = Stream::new().numbers(&mut input, &output, &mut words);
+    let read = filters::list(b"print", &mut input, &output, &mut words);
+    if !read.well {
+        return;
+    }
     let count = read.count;
     let stream = read.stream;
-    let event = read.event;
-    if filters::tell_number(b"print", event) {
-        return;
-    }
-    if stream.failed(b"print") {
-        return;
-    }
     let mut room = [0u8; 8192];
     let answer = printing::print(&words[..count], Case::Letters, &mut room);
     tell(stream, &mut output, answer, &room);

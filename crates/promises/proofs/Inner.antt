@@ -34,7 +34,7 @@ use Rattle.mode_a.specs.Rows.{requests}
 use Rattle.mode_a.specs.Step.{done}
 use Rattle.table.specs.declared.Kind.{Kind}
 use Rattle.table.specs.declared.Action.{Action}
-use Rattle.table.specs.Kinds.{kindOf}
+use Rattle.table.specs.Kinds.{kindOf, columnOf}
 use Rattle.table.specs.Actions.{actionOf}
 use Rattle.moves.specs.Moves.{doingOf}
 
@@ -75,9 +75,12 @@ same-unique n m r r′ p q = unique p q
 pub asks-unique : (n : Number) (r r′ : Words) → r ≡ asksFor n → r′ ≡ asksFor n → r ≡ r′
 asks-unique n r r′ p q = unique p q
 
--- `table::kind_of`, `table::action_at`
+-- `table::kind_of`, `table::column_of`, `table::action_at`
 pub kind-of-unique : (b : Words) (r r′ : Kind) → r ≡ kindOf b → r′ ≡ kindOf b → r ≡ r′
 kind-of-unique b r r′ p q = unique p q
+
+pub column-of-unique : (kind : Kind) (r r′ : ℕ) → r ≡ columnOf kind → r′ ≡ columnOf kind → r ≡ r′
+column-of-unique kind r r′ p q = unique p q
 
 pub action-at-unique : (place : Place) (kind : Kind) (r r′ : Action) → r ≡ actionOf place kind → r′ ≡ actionOf place kind → r ≡ r′
 action-at-unique place kind r r′ p q = unique p q

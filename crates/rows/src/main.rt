@@ -45,23 +45,6 @@ fn kind_at(no: u64) -> Kind {
     }
 }
 
-fn kind_no(kind: Kind) -> u64 {
-    match kind {
-        Kind::Cs1Block => 0,
-        Kind::Cs1 => 1,
-        Kind::Cs2Block => 2,
-        Kind::Cs2 => 3,
-        Kind::Cs3Block => 4,
-        Kind::Cs3 => 5,
-        Kind::Rqs => 6,
-        Kind::Rq => 7,
-        Kind::Block => 8,
-        Kind::Turn => 9,
-        Kind::Alphas => 10,
-        Kind::Else => 11,
-    }
-}
-
 fn put_where(line: &mut [u8], at: usize, byte: u8, wanted: bool) -> usize {
     if wanted {
         return numbers::put(line, at, byte);
@@ -96,7 +79,7 @@ fn put_kind(line: &mut [u8], at: usize, kind: Kind) -> usize {
         line,
         to,
         b"cs1-block cs1 cs2-block cs2 cs3-block cs3 rqs rq block turn alphas else ",
-        kind_no(kind),
+        table::column_of(kind) as u64,
     )
 }
 

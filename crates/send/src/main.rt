@@ -50,23 +50,16 @@ fn put_slots(first: Stream, output: &mut [u8], text: &[u8]) -> Stream {
 }
 
 fn main() {
-    if filters::has_words(b"send") {
-        return;
-    }
     let mut input = [0u8; 4096];
     let mut output = [0u8; 4096];
     // one signal over the limit is enough to refuse
     let mut words = [0u8; 8193];
-    let read = Stream::new().numbers(&mut input, &output, &mut words);
+    let read = filters::list(b"send", &mut input, &output, &mut words);
+    if !read.well {
+        return;
+    }
     let count = read.count;
     let stream = read.stream;
-    let event = read.event;
-    if filters::tell_number(b"send", event) {
-        return;
-    }
-    if stream.failed(b"send") {
-        return;
-    }
     put_slots(stream, &mut output, &words[..count])
         .end_line(&mut output)
         .finish(&output, b"send");

@@ -208,7 +208,8 @@ fn row_no(place: Place) -> usize
     }
 }
 
-fn column_of(kind: Kind) -> usize
+// The number of a kind's column, from 0.
+pub fn column_of(kind: Kind) -> usize
     ensures { λ r. ⌜ r ≡ columnOf kind ⌝ }
 {
     match kind {
