@@ -5,3 +5,4 @@
 pub mod HeardLaws
 pub mod Unique
 pub mod Refuted
+pub mod CallLaws

@@ -29,19 +29,20 @@ use Rattle.mode_a.specs.declared.Role.the-variants.{Master, Slave}
 use Rattle.mode_a.specs.declared.Number.the-variants.{One, Two}
 use Rattle.mode_a.specs.declared.Words.{Words}
 use Rattle.mode_a.specs.declared.Place.{Place}
-use Rattle.mode_a.specs.declared.Place.the-variants.{Sending, Turning, Receiving, Asking, StandBy, Lost}
+use Rattle.mode_a.specs.declared.Place.the-variants.{Sending, Turning, Receiving, Asking, Lost}
 use Rattle.mode_a.specs.declared.Offer.{Offer}
 use Rattle.mode_a.specs.declared.Station.{Station}
 use Rattle.mode_a.specs.declared.Reply.{Reply}
 use Rattle.mode_a.specs.declared.Stepped.{Stepped}
-use Rattle.mode_a.specs.Station.{words, single, silence, RQ×3, asksFor, freshMaster, freshSlave, firstBurst}
+use Rattle.mode_a.specs.declared.Peer.the-variants.{Nobody}
+use Rattle.mode_a.specs.Station.{words, single, silence, RQ×3, asksFor, noIdentity, resting, freshMaster, freshSlave, firstBurst}
 use Rattle.mode_a.specs.Heard.{firstOf, mayHold, isBlock, isWords, heardOf}
 use Rattle.mode_a.specs.Over.{listened}
 use Rattle.mode_a.specs.Step.{trafficIn, done, sound, stepping, saidStepped, Steps}
 
 -- a slave at a place, with a count
 abbrev slaveAt : Place → ℕ → Station
-slaveAt p k = record { role = Slave; place = p; count = k; case = Letters; plus = false }
+slaveAt p k = record { role = Slave; place = p; count = k; case = Letters; plus = false; own = noIdentity; other = Nobody }
 
 -- T E A, and a burst with a damaged word
 abbrev tea : Words
@@ -123,7 +124,7 @@ unfolding stepping sound firstNot
 no-order-3-4 s p = let z : _≡_ {A = ℕ} 3 4 = ap numberIn (p .0) in omega arith
 
 -- at Stand-by, where no offer is taken
-pub no-offer-unjudged : (r : Reply) → Steps (slaveAt StandBy 0) silence (Offer.Text (words 116 102 71)) (Stepped.Done r) → ⊥
+pub no-offer-unjudged : (r : Reply) → Steps (slaveAt (resting 0) 0) silence (Offer.Text (words 116 102 71)) (Stepped.Done r) → ⊥
 unfolding stepping sound mayHold trafficOf meaningOf firstNot
 no-offer-unjudged r p = let z : _≡_ {A = ℕ} 0 3 = ap numberIn (p .0) in omega arith
 

@@ -1,6 +1,6 @@
--- No second answer: the promises of `step`, `fresh_master`, `fresh_slave` and `first_burst`, as their contracts cite them, leave one.
+-- No second answer: the promises of `step`, `fresh_master`, `fresh_slave`, `standing_by` and `first_burst`, as their contracts cite them, leave one.
 -- Assumes nothing.
-use mathlib.Core.Path.{_≡_, refl, ap₂, sym, _∙_}
+use mathlib.Core.Path.{_≡_, refl, ap, ap₂, sym, _∙_}
 use lib.Dec.{eqb}
 use Rattle.laws.specs.Choice.{if_then_else_}
 use Rattle.laws.proofs.Unique.{unique}
@@ -10,18 +10,21 @@ use Rattle.mode_a.specs.declared.Offer.{Offer}
 use Rattle.mode_a.specs.declared.Station.{Station}
 use Rattle.mode_a.specs.declared.Reply.{Reply}
 use Rattle.mode_a.specs.declared.Stepped.{Stepped}
-use Rattle.mode_a.specs.Station.{freshMaster, freshSlave, firstBurst}
+use Rattle.mode_a.specs.declared.Identity.{Identity}
+use Rattle.mode_a.specs.declared.Stood.{Stood}
+use Rattle.mode_a.specs.Station.{freshMaster, freshSlave, firstBurst, saidStood, StandsBy}
 use Rattle.mode_a.specs.Step.{saidStepped, handedBack, Steps}
 
 -- the answer, read back from 01's number and value and the station handed back
 abbrev steppedFrom : Answer Reply → Station → Stepped
 steppedFrom (answered r) s = Stepped.Done r
-steppedFrom (refused n v) s = if eqb n 4 then Stepped.BadStation s else Stepped.BadWord v s
+steppedFrom (refused n v) s = if eqb n 4 then Stepped.BadStation s else if eqb n 3 then Stepped.BadWord v s else Stepped.BadCall v s
 
 stepped-back : (r : Stepped) → steppedFrom (saidStepped r) (handedBack r) ≡ r
 stepped-back (Stepped.Done r) = refl
 stepped-back (Stepped.BadStation s) = refl
 stepped-back (Stepped.BadWord i s) = refl
+stepped-back (Stepped.BadCall i s) = refl
 
 pub step-unique : (s : Station) (b : Words) (o : Offer) (r r′ : Stepped) → Steps s b o r → Steps s b o r′ → r ≡ r′
 step-unique s b o r r′ p q =
@@ -37,3 +40,14 @@ fresh-slave-unique r r′ p q = unique p q
 
 pub first-burst-unique : (r r′ : Words) → r ≡ firstBurst → r′ ≡ firstBurst → r ≡ r′
 first-burst-unique r r′ p q = unique p q
+
+abbrev stoodFrom : Answer Station → Stood
+stoodFrom (answered s) = Stood.By s
+stoodFrom (refused n v) = Stood.BadIdentity v
+
+stood-back : (r : Stood) → stoodFrom (saidStood r) ≡ r
+stood-back (Stood.By s) = refl
+stood-back (Stood.BadIdentity n) = refl
+
+pub standing-by-unique : (i : Identity) (r r′ : Stood) → StandsBy i r → StandsBy i r′ → r ≡ r′
+standing-by-unique i r r′ p q = sym (stood-back r) ∙ ap stoodFrom (unique p q) ∙ stood-back r′

@@ -2,7 +2,8 @@
 --
 -- A row a place, in 01's order, with 01's words and 001's sections. `Repeats`: it stays and sends these; `Goes`: it goes to the
 -- place and sends these; `Takes`: it takes the offer under the number; `Receives` and `Opens`: it goes to Receiving or Opening,
--- which cancels a + heard. What a `Takes`, an `Accepts` and the count then do is Step.antt.
+-- which cancels a + heard; `Rests`: it goes to Stand-by and has so many steps to wait. What a `Takes`, an `Accepts`, an `Answers`, a
+-- `Listens`, a `Reaches` and the count then do is Step.antt.
 -- Assumes nothing.
 use mathlib.Core.Bool.{Bool, true, false}
 use Prim.Native.Nat.{_+_}
@@ -16,10 +17,14 @@ use Rattle.mode_a.specs.declared.Words.{Words}
 use Rattle.mode_a.specs.declared.Held.{Held}
 use Rattle.mode_a.specs.declared.Ended.{Ended}
 use Rattle.mode_a.specs.declared.Place.{Place}
-use Rattle.mode_a.specs.declared.Place.the-variants.{Sending, Turning, Opening, Ending, Receiving, Asking, StandBy, Lost}
+use Rattle.mode_a.specs.declared.Waiting.{Waiting}
+use Rattle.mode_a.specs.declared.Called.{Called}
+use Rattle.mode_a.specs.declared.Mark.{Mark}
+use Rattle.mode_a.specs.declared.Place.the-variants.{Sending, Turning, Opening, Ending, Receiving, Asking, StandBy, Lost, Calling}
 use Rattle.mode_a.specs.declared.Doing.{Doing}
-use Rattle.mode_a.specs.declared.Doing.the-variants.{Repeats, Goes, Takes, Receives, Opens, Accepts}
-use Rattle.mode_a.specs.Station.{single, silence, βαβ, ααα, RQ×3, other, same, asksFor}
+use Rattle.mode_a.specs.declared.Doing.the-variants.{Repeats, Goes, Takes, Receives, Opens, Accepts, Rests, Answers, Listens, Reaches}
+use Rattle.mode_a.specs.Calls.{nextBlock}
+use Rattle.mode_a.specs.Station.{single, silence, βαβ, ααα, RQ×3, other, same, asksFor, markOf, marks}
 use Rattle.mode_a.specs.Heard.{First, Cs, Cs3, Rq, Else, Heard}
 
 -- Sending "(holds a block, numbered 1 or 2; reads the first word only)"                                   R-048, R-049
@@ -69,7 +74,7 @@ requests Slave = RQ×3
 
 abbrev pub opening : Role → First → Doing
 opening r (Cs n) = Takes n
-opening r Cs3 = Goes StandBy silence
+opening r Cs3 = Rests 0 silence
 opening r Rq = Repeats (requests r)
 opening r Else = Repeats (requests r)
 
@@ -79,11 +84,11 @@ opening r Else = Repeats (requests r)
 --                silent."
 abbrev pub endsAgain : Ended → Doing
 endsAgain e =
-    if leb 4 (e .total) then Goes StandBy silence
+    if leb 4 (e .total) then Rests 0 silence
     else Goes (Ending (record { number = e .number; total = e .total + 1 })) ααα
 
 abbrev pub ending : Ended → First → Doing
-ending e (Cs n) = if same n (e .number) then endsAgain e else Goes StandBy silence
+ending e (Cs n) = if same n (e .number) then endsAgain e else Rests 0 silence
 ending e Cs3 = endsAgain e
 ending e Rq = endsAgain e
 ending e Else = endsAgain e
@@ -94,7 +99,7 @@ ending e Else = endsAgain e
 --     all else   "All else, any RQ included: ask for n again."                          3.7.5, 3.7.6      R-081
 abbrev pub receiving : Number → Heard → Doing
 receiving n h =
-    if h .block then Accepts n else if h .alphas then Goes StandBy (asksFor (other n)) else Repeats (asksFor n)
+    if h .block then Accepts n else if h .alphas then Rests 0 (asksFor (other n)) else Repeats (asksFor n)
 
 -- Asking
 --     βαβ        "βαβ: go to Opening and send RQ as there."                             3.7.11.5          R-082
@@ -102,7 +107,39 @@ receiving n h =
 abbrev pub asking : Heard → Doing
 asking h = if h .turned then Opens else Repeats (single cs3)
 
--- Stand-by and Lost: "silent for good, no offer taken"                                                    R-084, R-085
+-- Stand-by "hears and places calls" (02, T-02)
+--     both       "The slave answers CS1 after both blocks in succession."               3.5.5
+--                in either order; the same block twice is one
+--     all else   a call that is offered is placed, or it is silent                      3.5.4
+abbrev pub bothHeard : Mark → Mark → Bool
+bothHeard Mark.None m = false
+bothHeard Mark.One Mark.None = false
+bothHeard Mark.One Mark.One = false
+bothHeard Mark.One Mark.Two = true
+bothHeard Mark.Two Mark.None = false
+bothHeard Mark.Two Mark.One = true
+bothHeard Mark.Two Mark.Two = false
+
+abbrev pub standBy : Waiting → Heard → Doing
+standBy w h =
+    if bothHeard (w .heard) (h .call) then Answers else Listens (record { wait = w .wait; heard = h .call })
+
+-- Calling (reads the first word) (02, T-02)
+--     the same   "goes on to traffic on two successive identical CS1 or CS2"            3.5.6
+--     CS3        "on CS3 waits 128 cycles in stand-by"                                  3.5.7
+--     all else   "sends call blocks 1 and 2 in turn for at most 128 cycles"             3.5.4
+abbrev pub callsOn : Called → Mark → Doing
+callsOn c m =
+    if leb 128 (c .sent) then Rests 128 silence
+    else Goes (Calling (record { to = c .to; sent = c .sent + 1; last = m })) (nextBlock (c .to) (c .sent))
+
+abbrev pub calling : Called → First → Doing
+calling c (Cs n) = if marks (c .last) n then Reaches (c .to) n else callsOn c (markOf n)
+calling c Cs3 = Rests 128 silence
+calling c Rq = callsOn c Mark.None
+calling c Else = callsOn c Mark.None
+
+-- Lost: "silent for good, no offer taken"                                                                 R-085
 abbrev pub rowOf : Role → Place → Heard → Doing
 rowOf r (Sending b) h = sending b (h .first)
 rowOf r (Turning n) h = turning r n h
@@ -110,5 +147,6 @@ rowOf r Opening h = opening r (h .first)
 rowOf r (Ending e) h = ending e (h .first)
 rowOf r (Receiving n) h = receiving n h
 rowOf r Asking h = asking h
-rowOf r StandBy h = Goes StandBy silence
+rowOf r (StandBy w) h = standBy w h
 rowOf r Lost h = Goes Lost silence
+rowOf r (Calling c) h = calling c (h .first)

@@ -1,20 +1,32 @@
--- 01, The station: bursts, numbers, and fresh stations.  R-041, R-042, R-043, R-092, R-093, R-094, R-095
+-- 01, The station: bursts, numbers, fresh stations; 02, T-02: a station at Stand-by.  R-041, R-042, R-043, R-092, R-093, R-094, R-095
 --
 -- "A station is master or slave, and is at one of these places; the places that send or receive blocks carry their own inner
 -- state." "An offer is text (three words), over, end or nothing."  R-044, R-045, R-046: the types Role, Place and Offer of
 -- src/lib.rt.
 -- Assumes nothing.
+use mathlib.Core.Path.{_≡_}
 use mathlib.Core.Bool.{Bool, true, false}
 use mathlib.Core.List.{List, [], _∷_}
 use Prim.Native.Nat.{ℕ}
+use lib.Dec.{ltb}
+use Rattle.laws.specs.Choice.{if_then_else_}
 use Rattle.signals.specs.declared.Case.the-variants.{Letters}
 use Rattle.signals.specs.Meaning.{alpha, beta, rq, cs1, cs2}
+use Rattle.signals.specs.Numbers.{Answer, answered, refused, firstNot}
 use Rattle.mode_a.specs.declared.Role.the-variants.{Master, Slave}
 use Rattle.mode_a.specs.declared.Number.{Number}
 use Rattle.mode_a.specs.declared.Number.the-variants.{One, Two}
 use Rattle.mode_a.specs.declared.Words.{Words}
-use Rattle.mode_a.specs.declared.Place.the-variants.{Opening, Receiving}
+use Rattle.mode_a.specs.declared.Mark.{Mark}
+use Rattle.mode_a.specs.declared.Identity.{Identity}
+use Rattle.mode_a.specs.declared.Own.{Own}
+use Rattle.mode_a.specs.declared.Peer.the-variants.{Nobody}
+use Rattle.mode_a.specs.declared.Waiting.{Waiting}
+use Rattle.mode_a.specs.declared.Place.{Place}
+use Rattle.mode_a.specs.declared.Place.the-variants.{Opening, Receiving, StandBy}
 use Rattle.mode_a.specs.declared.Station.{Station}
+use Rattle.mode_a.specs.declared.Stood.{Stood}
+use Rattle.mode_a.specs.Calls.{isIdentity, signalsOf}
 
 -- "A burst is three words"  R-041
 abbrev pub words : ℕ → ℕ → ℕ → Words
@@ -54,13 +66,50 @@ abbrev pub asksFor : Number → Words
 asksFor One = single cs1
 asksFor Two = single cs2
 
+-- which of CS1 and CS2 was heard, and whether it was that of a number
+abbrev pub markOf : Number → Mark
+markOf One = Mark.One
+markOf Two = Mark.Two
+
+abbrev pub marks : Mark → Number → Bool
+marks Mark.None n = false
+marks Mark.One n = same One n
+marks Mark.Two n = same Two n
+
+-- a station without an identity
+abbrev pub noIdentity : Own
+noIdentity = record { four = record { 0 = 0; 1 = 0; 2 = 0; 3 = 0 } }
+
 -- "A fresh master is Opening. A fresh slave is Receiving, awaits 1, and its first burst is CS1. Both start with count 0,
 -- letters case and no + heard."  R-092, R-093, R-094, R-095
 abbrev pub freshMaster : Station
-freshMaster = record { role = Master; place = Opening; count = 0; case = Letters; plus = false }
+freshMaster =
+    record { role = Master; place = Opening; count = 0; case = Letters; plus = false; own = noIdentity; other = Nobody }
 
 abbrev pub freshSlave : Station
-freshSlave = record { role = Slave; place = Receiving One; count = 0; case = Letters; plus = false }
+freshSlave =
+    record { role = Slave; place = Receiving One; count = 0; case = Letters; plus = false; own = noIdentity; other = Nobody }
 
 abbrev pub firstBurst : Words
 firstBurst = asksFor One
+
+-- 02, T-02: a station at Stand-by, and the place: nothing left to wait, and none of its own call blocks heard
+abbrev pub resting : ℕ → Place
+resting n = StandBy (record { wait = n; heard = Mark.None })
+
+abbrev pub freshAt : Identity → Station
+freshAt i =
+    record { role = Slave; place = resting 0; count = 0; case = Letters; plus = false; own = record { four = i }; other = Nobody }
+
+-- "8, an identity signal outside table 3a": the index of the first beside it
+unfoldable pub standing : Identity → Answer Station
+standing i =
+    if ltb (firstNot isIdentity (signalsOf i)) 4 then refused 8 (firstNot isIdentity (signalsOf i)) else answered (freshAt i)
+
+abbrev pub saidStood : Stood → Answer Station
+saidStood (Stood.By s) = answered s
+saidStood (Stood.BadIdentity n) = refused 8 n
+
+-- The promise of `standing_by`: r is the answer for the identity i.
+abbrev pub StandsBy : Identity → Stood → Type 0
+StandsBy i r = saidStood r ≡ standing i

@@ -1,55 +1,71 @@
 -- 01, The station: "One step: hear a burst, take an offer, answer with the new station, a burst to send, up to three printed
--- signals, and whether the offer was taken."  R-039, R-040
+-- signals, and whether the offer was taken."  R-039, R-040. With calls as 02, T-02 has them.
 -- Assumes nothing.
 use mathlib.Core.Path.{_≡_}
 use mathlib.Core.Bool.{Bool, true, false, not, _&&_}
 use mathlib.Core.List.{List, [], _∷_}
-use Prim.Native.Nat.{ℕ, _+_}
+use Prim.Native.Nat.{ℕ, _+_, _-_}
 use lib.Dec.{eqb, leb, ltb}
 use lib.ListN.{length, getD}
 use Rattle.laws.specs.Choice.{if_then_else_}
+use Rattle.signals.specs.declared.Case.{Case}
+use Rattle.signals.specs.declared.Case.the-variants.{Letters}
 use Rattle.signals.specs.Meaning.{beta, cs3, figures}
 use Rattle.signals.specs.Numbers.{Answer, answered, refused, firstNot}
+use Rattle.mode_a.specs.declared.Role.{Role}
+use Rattle.mode_a.specs.declared.Role.the-variants.{Master, Slave}
 use Rattle.mode_a.specs.declared.Number.{Number}
+use Rattle.mode_a.specs.declared.Number.the-variants.{One}
+use Rattle.mode_a.specs.declared.Mark.{Mark}
+use Rattle.mode_a.specs.declared.Identity.{Identity}
+use Rattle.mode_a.specs.declared.Peer.{Peer}
+use Rattle.mode_a.specs.declared.Peer.the-variants.{Nobody, Four}
+use Rattle.mode_a.specs.declared.Waiting.{Waiting}
 use Rattle.mode_a.specs.declared.Words.{Words}
 use Rattle.mode_a.specs.declared.Place.{Place}
-use Rattle.mode_a.specs.declared.Place.the-variants.{Sending, Turning, Opening, Ending, Receiving, Asking, StandBy, Lost}
+use Rattle.mode_a.specs.declared.Place.the-variants.{Sending, Turning, Opening, Ending, Receiving, Asking, StandBy, Lost, Calling}
 use Rattle.mode_a.specs.declared.Offer.{Offer}
 use Rattle.mode_a.specs.declared.Station.{Station}
 use Rattle.mode_a.specs.declared.Doing.{Doing}
-use Rattle.mode_a.specs.declared.Doing.the-variants.{Repeats, Goes, Takes, Receives, Opens, Accepts}
+use Rattle.mode_a.specs.declared.Doing.the-variants.{Repeats, Goes, Takes, Receives, Opens, Accepts, Rests, Answers, Listens, Reaches}
 use Rattle.mode_a.specs.declared.Reply.{Reply}
 use Rattle.mode_a.specs.declared.Stepped.{Stepped}
-use Rattle.mode_a.specs.Station.{words, listOf, single, silence, ααα, other, asksFor}
+use Rattle.mode_a.specs.Calls.{isIdentity, signalsOf, callBlock1}
+use Rattle.mode_a.specs.Station.{words, listOf, single, silence, ααα, other, asksFor, resting}
 use Rattle.mode_a.specs.Heard.{mayHold, heardOf}
 use Rattle.mode_a.specs.declared.Listening.{Listening}
 use Rattle.mode_a.specs.Over.{listenedAll, query, cross}
 use Rattle.mode_a.specs.Rows.{rowOf, requests}
 
 -- a station at another place, with count 0: "Then, and after every other step, the count is 0."  R-099
+abbrev pub standsAt : Station → Place → ℕ → Case → Bool → Station
+standsAt s p k c t =
+    record { role = s .role; place = p; count = k; case = c; plus = t; own = s .own; other = s .other }
+
 abbrev pub movedTo : Station → Place → Station
-movedTo s p = record { role = s .role; place = p; count = 0; case = s .case; plus = s .plus }
+movedTo s p = standsAt s p 0 (s .case) (s .plus)
 
 -- the same, with no + heard any more: "so does the step from Asking to Opening or from Turning to Receiving"  R-089
 abbrev pub cancelledTo : Station → Place → Station
-cancelledTo s p = record { role = s .role; place = p; count = 0; case = s .case; plus = false }
+cancelledTo s p = standsAt s p 0 (s .case) false
 
 -- an answer that prints nothing and takes no offer
 abbrev pub sends : Station → Words → Reply
 sends s w = record { station = s; sent = w; printed = silence; taken = false }
 
 -- "take the offer (nothing counts as taken too) .. Text gives that block, nothing gives βββ, over gives figures + ?, end gives
--- ααα and place Ending."  R-052, R-053, R-054, R-055, R-056, R-057
-abbrev pub holds : Station → Number → Words → Reply
-holds s n w =
-    record { station = movedTo s (Sending (record { number = n; block = w })); sent = w; printed = silence; taken = true }
+-- ααα and place Ending."  R-052, R-053, R-054, R-055, R-056, R-057. A call is not taken here, and gives βββ as nothing does.
+abbrev pub holds : Station → Number → Words → Bool → Reply
+holds s n w t =
+    record { station = movedTo s (Sending (record { number = n; block = w })); sent = w; printed = silence; taken = t }
 
 abbrev pub takes : Station → Number → Offer → Reply
-takes s n (Offer.Text w) = holds s n w
-takes s n Offer.Over = holds s n (words figures cross query)
+takes s n (Offer.Text w) = holds s n w true
+takes s n Offer.Over = holds s n (words figures cross query) true
 takes s n Offer.End =
     record { station = movedTo s (Ending (record { number = n; total = 1 })); sent = ααα; printed = silence; taken = true }
-takes s n Offer.Nothing = holds s n (words beta beta beta)
+takes s n Offer.Nothing = holds s n (words beta beta beta) true
+takes s n (Offer.Call i) = holds s n (words beta beta beta) false
 
 -- "the traffic signals are printed": the words of the block in order, β left out, 0 behind them  R-074
 abbrev pub withoutβ : List ℕ → List ℕ
@@ -67,11 +83,12 @@ isOver (Offer.Text w) = false
 isOver Offer.Over = true
 isOver Offer.End = false
 isOver Offer.Nothing = false
+isOver (Offer.Call i) = false
 
 -- "it awaits the other number and asks for it by CS1 or CS2. But if the over was heard in this block, or the offer is over, it
 -- sends CS3 and goes to Asking (an over offered then counts as taken, no other offer does)."  R-075, R-076, R-077, R-078, R-079
 abbrev pub heardAt : Station → Place → Listening → Station
-heardAt s p l = record { role = s .role; place = p; count = 0; case = l .case; plus = l .plus }
+heardAt s p l = standsAt s p 0 (l .case) (l .plus)
 
 abbrev pub acceptsBy : Station → Number → Words → Bool → Listening → Reply
 acceptsBy s n b true l =
@@ -88,7 +105,42 @@ accepts s n b o = acceptsBy s n b (isOver o) (listenedAll (s .case) (s .plus) b)
 abbrev pub repeats : Station → Words → Reply
 repeats s w =
     if leb 31 (s .count) then sends (movedTo s Lost) silence
-    else sends (record { role = s .role; place = s .place; count = s .count + 1; case = s .case; plus = s .plus }) w
+    else sends (standsAt s (s .place) (s .count + 1) (s .case) (s .plus)) w
+
+-- 02, T-02: a station at Stand-by with so many steps to wait and nobody at the other end
+abbrev pub rested : Station → ℕ → Station
+rested s n =
+    record { role = s .role; place = resting n; count = 0; case = s .case; plus = s .plus; own = s .own; other = Nobody }
+
+-- a station that places or answers a call: in letters case, with no + heard and nobody at the other end
+abbrev pub begun : Station → Role → Place → Station
+begun s r p = record { role = r; place = p; count = 0; case = Letters; plus = false; own = s .own; other = Nobody }
+
+-- "the master sends call blocks 1 and 2 in turn": the first burst goes out in the step that takes the offer
+abbrev pub called : Station → Identity → Reply
+called s i =
+    record {
+      station = begun s Master (Calling (record { to = i; sent = 1; last = Mark.None }));
+      sent = callBlock1 i;
+      printed = silence;
+      taken = true;
+    }
+
+-- "waits 128 cycles in stand-by": one step less is left to wait
+abbrev pub waitsOn : Station → Waiting → Reply
+waitsOn s w = sends (movedTo s (StandBy (record { wait = w .wait - 1; heard = w .heard }))) silence
+
+abbrev pub listens : Station → Waiting → Offer → Reply
+listens s w (Offer.Text b) = waitsOn s w
+listens s w Offer.Over = waitsOn s w
+listens s w Offer.End = waitsOn s w
+listens s w Offer.Nothing = waitsOn s w
+listens s w (Offer.Call i) = if eqb (w .wait) 0 then called s i else waitsOn s w
+
+-- "goes on to traffic": the identity called is at the other end
+abbrev pub reached : Station → Identity → Station
+reached s i =
+    record { role = s .role; place = s .place; count = s .count; case = s .case; plus = s .plus; own = s .own; other = Four i }
 
 unfoldable pub done : Station → Words → Offer → Doing → Reply
 done s b o (Repeats w) = repeats s w
@@ -97,11 +149,16 @@ done s b o (Takes n) = takes s n o
 done s b o (Receives n) = sends (cancelledTo s (Receiving n)) (asksFor n)
 done s b o Opens = sends (cancelledTo s Opening) (requests (s .role))
 done s b o (Accepts n) = accepts s n b o
+done s b o (Rests n w) = sends (rested s n) w
+done s b o Answers = sends (begun s Slave (Receiving One)) (asksFor One)
+done s b o (Listens w) = listens s w o
+done s b o (Reaches i n) = takes (reached s i) n o
 
--- 01, Numbers returned, for the step. "mode A step 4, 3"  R-134, R-135
+-- 01, Numbers returned, for the step. "mode A step 4, 3"  R-134, R-135; 8 is "checked before all others at the call" (02, T-02)
+--     8   "an identity signal outside table 3a": of the call offered                                          index of the first
 --     4   "station with count over 31, an Ending total not 1 to 4, or a held word neither traffic nor β"      "0"                     R-129
 --     3   "a word that may not stand there: text offer (traffic, β)"                                         "index of the first"    R-128
--- Both are judged at every place.
+-- All are judged at every place.
 abbrev pub soundPlace : Place → Bool
 soundPlace (Sending h) = leb 3 (firstNot mayHold (listOf (h .block)))
 soundPlace (Turning n) = true
@@ -109,8 +166,9 @@ soundPlace Opening = true
 soundPlace (Ending e) = leb 1 (e .total) && leb (e .total) 4
 soundPlace (Receiving n) = true
 soundPlace Asking = true
-soundPlace StandBy = true
+soundPlace (StandBy w) = true
 soundPlace Lost = true
+soundPlace (Calling c) = true
 
 unfoldable pub sound : Station → Bool
 sound s = leb (s .count) 31 && soundPlace (s .place)
@@ -120,18 +178,28 @@ offered (Offer.Text w) = listOf w
 offered Offer.Over = []
 offered Offer.End = []
 offered Offer.Nothing = []
+offered (Offer.Call i) = []
+
+abbrev pub calledTo : Offer → List ℕ
+calledTo (Offer.Text w) = []
+calledTo Offer.Over = []
+calledTo Offer.End = []
+calledTo Offer.Nothing = []
+calledTo (Offer.Call i) = signalsOf i
 
 unfoldable pub stepping : Station → Words → Offer → Answer Reply
 stepping s b o =
-    if not (sound s) then refused 4 0
+    if ltb (firstNot isIdentity (calledTo o)) (length (calledTo o)) then refused 8 (firstNot isIdentity (calledTo o))
+    else if not (sound s) then refused 4 0
     else if ltb (firstNot mayHold (offered o)) (length (offered o)) then refused 3 (firstNot mayHold (offered o))
-    else answered (done s b o (rowOf (s .role) (s .place) (heardOf b)))
+    else answered (done s b o (rowOf (s .role) (s .place) (heardOf (s .own) b)))
 
 -- each case of the answer, by 01's number and the value beside it  R-167
 abbrev pub saidStepped : Stepped → Answer Reply
 saidStepped (Stepped.Done r) = answered r
 saidStepped (Stepped.BadStation s) = refused 4 0
 saidStepped (Stepped.BadWord i s) = refused 3 i
+saidStepped (Stepped.BadCall i s) = refused 8 i
 
 -- the station that the answer hands back: "A refusal prints and sends nothing .. and hands back the same station."  R-136, R-138: a
 -- refusal has no burst and no printed signals
@@ -139,6 +207,7 @@ abbrev pub handedBack : Stepped → Station
 handedBack (Stepped.Done r) = r .station
 handedBack (Stepped.BadStation s) = s
 handedBack (Stepped.BadWord i s) = s
+handedBack (Stepped.BadCall i s) = s
 
 abbrev pub stationAfter : Station → Answer Reply → Station
 stationAfter s (answered r) = r .station

@@ -1,7 +1,9 @@
-// One station of mode A (01, The station; 001, 3.3 to 3.7): what it is made of. The step is `station::step`; its rules, place
-// by place, are `specs/Rows.antt` and `specs/Step.antt`.
+// One station of mode A (01, The station; 02, T-02; 001, 3.3 to 3.7): what it is made of. The step is `station::step`; its rules,
+// place by place, are `specs/Rows.antt` and `specs/Step.antt`.
 ghost use mathlib.Core.Path.{_≡_};
-ghost use Rattle.mode_a.specs.Station.{other, same, asksFor, freshMaster, freshSlave, firstBurst};
+ghost use Rattle.signals.specs.Numbers.{firstNot};
+ghost use Rattle.mode_a.specs.Calls.{isIdentity, signalsOf, callBlock1, callBlock2};
+ghost use Rattle.mode_a.specs.Station.{other, same, asksFor, markOf, freshMaster, freshSlave, firstBurst, StandsBy};
 ghost use Rattle.mode_a.specs.Heard.{mayHold};
 use signals::Case;
 
@@ -51,6 +53,22 @@ impl Number {
             Number::Two => Words(signals::CS2, 0, 0),
         }
     }
+
+    pub fn mark(self) -> Mark
+        ensures { λ r. ⌜ r ≡ markOf self ⌝ }
+    {
+        match self {
+            Number::One => Mark::One,
+            Number::Two => Mark::Two,
+        }
+    }
+}
+
+// Which of two was heard in the last step, if either: of the own call blocks at Stand-by, of CS1 and CS2 at Calling.
+pub enum Mark {
+    None,
+    One,
+    Two,
 }
 
 // Three words: a burst, a block, the words of a text offer, or up to three printed signals with 0 behind them.
@@ -71,6 +89,70 @@ pub fn may_hold(word: u8) -> bool
     signals::intact(word) & (word != signals::ALPHA) & (word != signals::RQ)
 }
 
+// Four identity signals (02, T-02; 001, 3.5.2). A station without an identity has four zeros.
+pub struct Identity(pub u8, pub u8, pub u8, pub u8);
+
+impl Identity {
+    // "call block 1": the first identification signal, RQ and the second (001, 3.5.3).
+    pub fn block_1(self) -> Words
+        ensures { λ r. ⌜ r ≡ callBlock1 self ⌝ }
+    {
+        Words(self.0, signals::RQ, self.1)
+    }
+
+    // "call block 2": the third and the fourth identification signals and RQ.
+    pub fn block_2(self) -> Words
+        ensures { λ r. ⌜ r ≡ callBlock2 self ⌝ }
+    {
+        Words(self.2, self.3, signals::RQ)
+    }
+
+    // The index of the first signal outside table 3a; 4 where all four are of it.
+    pub fn first_outside(self) -> usize
+        ensures { λ r. ⌜ r ≡ firstNot isIdentity (signalsOf self) ⌝ }
+    {
+        if !may_identify(self.0) {
+            return 0;
+        }
+        if !may_identify(self.1) {
+            return 1;
+        }
+        if !may_identify(self.2) {
+            return 2;
+        }
+        if !may_identify(self.3) {
+            return 3;
+        }
+        4
+    }
+}
+
+// Whether a word is one of table 3a: V X Q K M P C Y F S T B U E O I R Z D A.
+pub fn may_identify(word: u8) -> bool
+    ensures { λ r. ⌜ r ≡ isIdentity word ⌝ }
+{
+    (word == 60)
+        | (word == 58)
+        | (word == 46)
+        | (word == 30)
+        | (word == 57)
+        | (word == 45)
+        | (word == 29)
+        | (word == 43)
+        | (word == 27)
+        | (word == 75)
+        | (word == 116)
+        | (word == 114)
+        | (word == 78)
+        | (word == 86)
+        | (word == 113)
+        | (word == 77)
+        | (word == 85)
+        | (word == 99)
+        | (word == 83)
+        | (word == 71)
+}
+
 // What Sending holds: a block and its number.
 pub struct Held {
     pub number: Number,
@@ -83,12 +165,28 @@ pub struct Ended {
     pub total: u8,
 }
 
+// What Stand-by holds: the steps left in which it places no call, and which of its own call blocks the last step heard.
+pub struct Waiting {
+    pub wait: u8,
+    pub heard: Mark,
+}
+
+// What Calling holds: the identity called, how many call bursts were sent, and which of CS1 and CS2 the last step heard.
+pub struct Called {
+    pub to: Identity,
+    pub sent: u8,
+    pub last: Mark,
+}
+
 // The places, with what each carries. The moves between them:
 //   Opening    -> Sending      CS1 or CS2 first, the offer taken under that number;  -> Stand-by at CS3
 //   Sending    -> Turning      CS3 first.      Sending, Opening -> Ending   where the offer taken is end
 //   Turning    -> Receiving    RQ RQ RQ (master), RQ first (slave).        Asking -> Opening   βαβ
 //   Receiving  -> Asking       a block accepted, and the over heard in it or offered;  -> Stand-by at ααα
-//   Ending     -> Stand-by     the other number's signal, or ααα sent four times.    All but Ending and Stand-by -> Lost   the 32nd repetition
+//   Ending     -> Stand-by     the other number's signal, or ααα sent four times
+//   Stand-by   -> Receiving    both own call blocks heard;  -> Calling   a call offered, and nothing left to wait
+//   Calling    -> Sending      the same CS1 or CS2 twice, or Ending;  -> Stand-by at CS3, or where 128 call bursts are sent
+//   Sending, Turning, Opening, Receiving, Asking -> Lost   the 32nd repetition
 pub enum Place {
     Sending(Held),
     // the number of the last block
@@ -98,26 +196,41 @@ pub enum Place {
     // the number awaited
     Receiving(Number),
     Asking,
-    StandBy,
+    StandBy(Waiting),
     Lost,
+    Calling(Called),
 }
 
-// "An offer is text (three words), over, end or nothing."
+// "An offer is text (three words), over, end or nothing", or a call to an identity (02, T-02).
 pub enum Offer {
     Text(Words),
     Over,
     End,
     Nothing,
+    Call(Identity),
+}
+
+// What no step changes: the own identity.
+pub struct Own {
+    pub four: Identity,
+}
+
+// Who is at the other end, as far as this station knows: the identity that it called.
+pub enum Peer {
+    Nobody,
+    Four(Identity),
 }
 
 // A station: at every place it has its repetition count, and of the direction that it receives the case and whether a + was
-// heard that a ? would make an over.
+// heard that a ? would make an over; its own identity, and who is at the other end.
 pub struct Station {
     pub role: Role,
     pub place: Place,
     pub count: u8,
     pub case: Case,
     pub plus: bool,
+    pub own: Own,
+    pub other: Peer,
 }
 
 // What is kept of the signals of accepted blocks: the case, whether a + was heard that only β has followed, and whether the over
@@ -142,6 +255,13 @@ pub enum Doing {
     Opens,
     // accept the block that has the number
     Accepts(Number),
+    // go to Stand-by with so many steps to wait, and send these
+    Rests(u8, Words),
+    // at Stand-by: answer the call; place the call that is offered where none is left to wait, or stay, this burst being kept
+    Answers,
+    Listens(Waiting),
+    // the identity called has answered: take the offer under the number
+    Reaches(Identity, Number),
 }
 
 // What a step answers.
@@ -159,6 +279,15 @@ pub enum Stepped {
     BadStation(Station),
     // 3: a word of the text offer neither traffic nor β; the index of the first
     BadWord(usize, Station),
+    // 8: a signal of the identity offered outside table 3a; the index of the first
+    BadCall(usize, Station),
+}
+
+// What `Station::standing_by` answers.
+pub enum Stood {
+    By(Station),
+    // 8: a signal of the own identity outside table 3a; the index of the first
+    BadIdentity(usize),
 }
 
 impl Station {
@@ -167,6 +296,9 @@ impl Station {
 
     // How often ααα is sent.
     pub const ENDINGS: u8 = 4;
+
+    // How many call bursts are sent, and how many steps are waited after a call that failed.
+    pub const CALLS: u8 = 128;
 
     // "A fresh master is Opening."
     pub fn fresh_master() -> Self
@@ -178,6 +310,10 @@ impl Station {
             count: 0,
             case: Case::Letters,
             plus: false,
+            own: Own {
+                four: Identity(0, 0, 0, 0),
+            },
+            other: Peer::Nobody,
         }
     }
 
@@ -192,7 +328,34 @@ impl Station {
             count: 0,
             case: Case::Letters,
             plus: false,
+            own: Own {
+                four: Identity(0, 0, 0, 0),
+            },
+            other: Peer::Nobody,
         }
+    }
+
+    // A station at Stand-by that is called by `identity` (02, T-02; 001, 3.5.1). Refuses 8, with the index of the first signal outside
+    // table 3a: a station with such an identity would never be called.
+    pub fn standing_by(identity: Identity) -> Stood
+        ensures { λ r. ⌜ StandsBy identity r ⌝ }
+    {
+        let outside = identity.first_outside();
+        if outside < 4 {
+            return Stood::BadIdentity(outside);
+        }
+        Stood::By(Station {
+            role: Role::Slave,
+            place: Place::StandBy(Waiting {
+                wait: 0,
+                heard: Mark::None,
+            }),
+            count: 0,
+            case: Case::Letters,
+            plus: false,
+            own: Own { four: identity },
+            other: Peer::Nobody,
+        })
     }
 
     // "its first burst is CS1" (R-094): CS1 0 0. It stands before the first step, so no step answers it, and it counts as no repetition.
