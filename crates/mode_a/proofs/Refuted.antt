@@ -9,6 +9,7 @@
 --     no-block-for-rq            Sending that sends the block again where RQ RQ RQ is due
 --     no-own-number-at-turning   Turning that asks for the number that its last block had
 --     no-order-3-4               a bad offer told before a bad station
+--     no-order-4-8               a bad station told before a bad call
 --     no-offer-unjudged          a text offer that is judged only where it would be taken
 -- Wrong fresh stations and first bursts, each by one field or word that is not as 01 has it, whatever the others are.
 --     no-fresh-master-asking     a fresh master at Asking
@@ -35,6 +36,7 @@ use Rattle.mode_a.specs.declared.Station.{Station}
 use Rattle.mode_a.specs.declared.Reply.{Reply}
 use Rattle.mode_a.specs.declared.Stepped.{Stepped}
 use Rattle.mode_a.specs.declared.Peer.the-variants.{Nobody}
+use Rattle.mode_a.specs.Calls.{isIdentity}
 use Rattle.mode_a.specs.Station.{words, single, silence, RQ×3, asksFor, noIdentity, resting, freshMaster, freshSlave, firstBurst}
 use Rattle.mode_a.specs.Heard.{firstOf, mayHold, isBlock, isWords, heardOf}
 use Rattle.mode_a.specs.Over.{listened}
@@ -123,7 +125,11 @@ pub no-order-3-4 : (s : Station) → Steps (slaveAt Lost 32) silence (Offer.Text
 unfolding stepping sound firstNot
 no-order-3-4 s p = let z : _≡_ {A = ℕ} 3 4 = ap numberIn (p .0) in omega arith
 
--- at Stand-by, where no offer is taken
+pub no-order-4-8 : (s : Station) → Steps (slaveAt Lost 32) silence (Offer.Call (noIdentity .four)) (Stepped.BadStation s) → ⊥
+unfolding stepping sound isIdentity firstNot
+no-order-4-8 s p = let z : _≡_ {A = ℕ} 4 8 = ap numberIn (p .0) in omega arith
+
+-- at Stand-by, where no offer is taken but a call
 pub no-offer-unjudged : (r : Reply) → Steps (slaveAt (resting 0) 0) silence (Offer.Text (words 116 102 71)) (Stepped.Done r) → ⊥
 unfolding stepping sound mayHold trafficOf meaningOf firstNot
 no-offer-unjudged r p = let z : _≡_ {A = ℕ} 0 3 = ap numberIn (p .0) in omega arith
