@@ -43,6 +43,9 @@ isTurning p = eqb (placeNo p) 1
 abbrev pub isOpening : Place → Bool
 isOpening p = eqb (placeNo p) 2
 
+abbrev pub isEnding : Place → Bool
+isEnding p = eqb (placeNo p) 3
+
 abbrev pub isReceiving : Place → Bool
 isReceiving p = eqb (placeNo p) 4
 

@@ -57,6 +57,14 @@ InOrder Offer.End = Unit {0}
 InOrder Offer.Nothing = Unit {0}
 InOrder (Offer.Call i) = isCallable i ≡ true
 
+-- the offer is a call
+abbrev pub isCall : Offer → Bool
+isCall (Offer.Text w) = false
+isCall Offer.Over = false
+isCall Offer.End = false
+isCall Offer.Nothing = false
+isCall (Offer.Call i) = true
+
 -- "confirms": Sending that hears the control signal of the other number, or CS3  R-051, R-058
 abbrev pub confirming : Held → First → Bool
 confirming h (Cs n) = not (same n (h .number))
