@@ -14,6 +14,7 @@ pub mod DamageLaws
 pub mod Link
 pub mod StepLaws
 pub mod RunLaws
+pub mod CallLaws
 pub mod TimeLaws
 pub mod LiveLaws
 pub mod SoundLaws

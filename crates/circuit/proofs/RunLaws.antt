@@ -113,7 +113,7 @@ linked-again c o b r l a =
     }
 
 -- at Stand-by no call is placed
-quiet : (c : Circuit) (e : Event) (r : Reply) → said c e ≡ answered r → placesCall c e ≡ false → isStandBy (c .hearer .place) ≡ true →
+pub quiet : (c : Circuit) (e : Event) (r : Reply) → said c e ≡ answered r → placesCall c e ≡ false → isStandBy (c .hearer .place) ≡ true →
     r .taken ≡ false
 quiet c e r i n s = sym (ap isTaken i) ∙ sym (rw s) ∙ n
 

@@ -76,7 +76,7 @@ idle (c2-call i j) = (_, c2-asks)
 idle c2-asks = (RQ×3, c2-call refl refl)
 
 -- the bursts of 01, by what they say
-ααα-signals : Signals ααα
+pub ααα-signals : Signals ααα
 unfolding meaningOf
 ααα-signals = (λ e. omega arith, λ e. omega arith, λ e. omega arith)
 
