@@ -4,15 +4,17 @@
 -- Whether a step is such a repetition is told from what was heard and from the place before it and the place that it leads to, and
 -- does not depend on the count that the station keeps. How often ααα was sent is told from the bursts of the run.
 -- Assumes nothing.
-use mathlib.Core.Bool.{Bool, false, not, _&&_}
+use mathlib.Core.Bool.{Bool, true, false, not, _&&_}
 use Prim.Native.Nat.{ℕ, suc}
 use Rattle.laws.specs.Choice.{if_then_else_}
 use Rattle.signals.specs.Numbers.{Answer, answered, refused}
 use Rattle.mode_a.specs.declared.Place.{Place}
+use Rattle.mode_a.specs.declared.Offer.{Offer}
 use Rattle.mode_a.specs.declared.Station.{Station}
 use Rattle.mode_a.specs.declared.Reply.{Reply}
 use Rattle.mode_a.specs.Station.{ααα}
 use Rattle.mode_a.specs.Heard.{Heard, heardOf, isWords}
+use Rattle.mode_a.specs.Step.{standsAt}
 use Rattle.runs.specs.Places.{changed, counting}
 use Rattle.runs.specs.Runs.{Event, Run, start, _▷_, said, next, after, confirms, accepting}
 
@@ -22,13 +24,13 @@ stays p h p′ = counting p && (not (confirms p h) && (not (accepting p h) && no
 
 -- The time-out itself is no change of place: what counts is where the same burst and offer lead from a count of 0.
 abbrev pub uncounted : Station → Station
-uncounted s = record { role = s .role; place = s .place; count = 0; case = s .case; plus = s .plus }
+uncounted s = standsAt s (s .place) 0 (s .case) (s .plus)
 
 abbrev pub leadsTo : Station → Event → Place
 leadsTo s e = next (uncounted s) e .place
 
 abbrev pub repetition : Station → Event → Bool
-repetition s e = stays (s .place) (heardOf (e .burst)) (leadsTo s e)
+repetition s e = stays (s .place) (heardOf (s .own) (e .burst)) (leadsTo s e)
 
 -- in a row: one more, or none; a refusal is no step and is passed over
 abbrev pub goesOn : Answer Reply → Bool → ℕ → ℕ
@@ -48,3 +50,11 @@ sentααα (refused n v) = false
 unfoldable pub alphasInARow : Station → Run → ℕ
 alphasInARow s start = 0
 alphasInARow s (run ▷ e) = goesOn (said (after s run) e) (sentααα (said (after s run) e)) (alphasInARow s run)
+
+-- a call is offered  02, T-02
+abbrev pub isCall : Offer → Bool
+isCall (Offer.Text w) = false
+isCall Offer.Over = false
+isCall Offer.End = false
+isCall Offer.Nothing = false
+isCall (Offer.Call i) = true

@@ -5,6 +5,7 @@
 --     placed, oneMore                 the same station at a place; with one more repetition
 --     by-repeat, by-take, by-accept   what is so of each answer that the row leaves open is so of the answer
 --     by-listen                       the same of a station at Stand-by that answers no call
+--     own-kept                        no step changes the own identity
 --     lost-stays                      silent for good
 --     standby-answers, standby-listens   what Stand-by does, by whether both call blocks came
 --     keeps                           a refusal leaves the station as it was
@@ -31,12 +32,15 @@ use Rattle.mode_a.specs.declared.Place.the-variants.{Receiving, Asking, StandBy
 use Rattle.mode_a.specs.declared.Offer.{Offer}
 use Rattle.mode_a.specs.declared.Station.{Station}
 use Rattle.mode_a.specs.declared.Listening.{Listening}
+use Rattle.mode_a.specs.declared.Doing.{Doing}
+use Rattle.mode_a.specs.declared.Doing.the-variants.{Repeats, Goes, Takes, Receives, Opens, Accepts, Rests, Listens, Reaches}
 use Rattle.mode_a.specs.declared.Reply.{Reply}
 use Rattle.mode_a.specs.Station.{listOf, single, silence, ααα, other, asksFor}
 use Rattle.mode_a.specs.Calls.{isIdentity, signalsOf, isCallable}
 use Rattle.mode_a.specs.Heard.{mayHold, isBlock, isWords, callOf, heardOf}
+use Rattle.mode_a.specs.Over.{listenedAll}
 use Rattle.mode_a.specs.Rows.{rowOf, requests, bothHeard}
-use Rattle.mode_a.specs.Step.{standsAt, movedTo, begun, called, waitsOn, listens, calledTo, sends, holds, takes, repeats, heardAt, acceptsBy, trafficIn, done, soundPlace, sound, offered, stepping, stationAfter}
+use Rattle.mode_a.specs.Step.{standsAt, movedTo, begun, called, waitsOn, listens, reached, calledTo, sends, holds, takes, repeats, heardAt, isOver, acceptsBy, trafficIn, done, soundPlace, sound, offered, stepping, stationAfter}
 use Rattle.runs.specs.Runs.{Event, said, next, InOrder}
 
 -- what may stand in an offered text, and be held, is a block
@@ -159,6 +163,20 @@ by-listen P s w (Offer.Call i) place wait = go (eqb (w .wait) 0) refl
     go : (t : Bool) → eqb (w .wait) 0 ≡ t → P (if t then called s i else waitsOn s w)
     go true e = place i refl (eqb-true (w .wait) 0 e)
     go false e = wait
+
+-- the own identity: no step changes it
+pub own-kept : (s : Station) (b : Words) (o : Offer) (d : Doing) → done s b o d .station .own ≡ s .own
+unfolding done
+own-kept s b o (Repeats w) = by-repeat (λ (r : Reply). r .station .own ≡ s .own) s w (λ t. refl) (λ t. refl)
+own-kept s b o (Goes p w) = refl
+own-kept s b o (Takes n) = by-take (λ (r : Reply). r .station .own ≡ s .own) s n o (λ w t. refl) refl
+own-kept s b o (Receives n) = refl
+own-kept s b o Opens = refl
+own-kept s b o (Accepts n) = by-accept (λ (r : Reply). r .station .own ≡ s .own) s n b (isOver o) (listenedAll (s .case) (s .plus) b) (λ u. refl) refl
+own-kept s b o (Rests n w) = refl
+own-kept s b o Doing.Answers = refl
+own-kept s b o (Listens w) = by-listen (λ (r : Reply). r .station .own ≡ s .own) s w o (λ i e z. refl) refl
+own-kept s b o (Reaches i n) = by-take (λ (r : Reply). r .station .own ≡ s .own) (reached s i) n o (λ w t. refl) refl
 
 -- "Lost: silent for good, no offer taken"
 module _ (s : Station) (b : Words) (o : Offer) (r : Reply) (a : Answers s b o r) where
