@@ -26,8 +26,8 @@ use Rattle.mode_a.specs.Heard.{firstOf, mayHold, isBlock, isWords, callOf, hear
 use Rattle.mode_a.specs.Over.{listened}
 use Rattle.mode_a.specs.Step.{sends, trafficIn, done, rested, sound, stepping}
 use Rattle.runs.specs.Places.{isStandBy}
-use Rattle.runs.specs.Runs.{Event, Run, start, _▷_, after}
-use Rattle.counts.specs.Runs.{alphasInARow, isCall}
+use Rattle.runs.specs.Runs.{Event, Run, start, _▷_, after, isCall}
+use Rattle.counts.specs.Runs.{alphasInARow}
 
 -- nothing heard and nothing offered; and with an offer that is refused
 abbrev nothing : Event

@@ -25,9 +25,9 @@ use Rattle.mode_a.specs.Heard.{callOf, heardOf}
 use Rattle.mode_a.specs.Rows.{rowOf}
 use Rattle.mode_a.specs.Step.{done, sound, stepping, stationAfter}
 use Rattle.runs.specs.Places.{isStandBy, isLost, counting}
-use Rattle.runs.specs.Runs.{Event, Run, start, _▷_, said, after}
+use Rattle.runs.specs.Runs.{Event, Run, start, _▷_, said, after, isCall}
 use Rattle.runs.proofs.StepLaws.{answers, is-answered, own-kept, keeps}
-use Rattle.counts.specs.Runs.{stays, uncounted, repetition, goesOn, inARow, sentααα, alphasInARow, isCall}
+use Rattle.counts.specs.Runs.{stays, uncounted, repetition, goesOn, inARow, sentααα, alphasInARow}
 use Rattle.counts.specs.Counts.{Counted}
 use Rattle.counts.proofs.StepLaws.{Fact, step-fact, isRepeats}
 use Rattle.counts.proofs.EndLaws.{Total, totalOf, total-next, after-four, ending-total}

@@ -23,9 +23,9 @@ use Rattle.mode_a.specs.Station.{silence, asksFor, noIdentity}
 use Rattle.mode_a.specs.Heard.{callOf}
 use Rattle.mode_a.specs.Rows.{bothHeard}
 use Rattle.mode_a.specs.Step.{sends, begun, called, waitsOn, stepping}
+use Rattle.runs.specs.Runs.{isCall}
 use Rattle.runs.specs.Places.{isStandBy}
 use Rattle.runs.proofs.StepLaws.{Answers, answers, by-listen, standby-answers, standby-listens}
-use Rattle.counts.specs.Runs.{isCall}
 
 -- a burst that is neither of the own call blocks completes no call
 no-block : (m : Mark) → bothHeard m Mark.None ≡ false

@@ -21,8 +21,8 @@ use Rattle.mode_a.specs.Station.{silence, resting}
 use Rattle.mode_a.specs.Heard.{callOf}
 use Rattle.mode_a.specs.Step.{stepping}
 use Rattle.runs.specs.Places.{isStandBy, isLost, counting}
-use Rattle.runs.specs.Runs.{Event, Run, _▷_, after}
-use Rattle.counts.specs.Runs.{repetition, inARow, alphasInARow, isCall}
+use Rattle.runs.specs.Runs.{Event, Run, _▷_, after, isCall}
+use Rattle.counts.specs.Runs.{repetition, inARow, alphasInARow}
 
 pub record Counted (fresh : Station) (run : Run) : Type 0 where
   -- while the station is not Lost, its count is the number of repetitions in a row that the run ends in, 31 at most

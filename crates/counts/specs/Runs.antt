@@ -9,7 +9,6 @@ use Prim.Native.Nat.{ℕ, suc}
 use Rattle.laws.specs.Choice.{if_then_else_}
 use Rattle.signals.specs.Numbers.{Answer, answered, refused}
 use Rattle.mode_a.specs.declared.Place.{Place}
-use Rattle.mode_a.specs.declared.Offer.{Offer}
 use Rattle.mode_a.specs.declared.Station.{Station}
 use Rattle.mode_a.specs.declared.Reply.{Reply}
 use Rattle.mode_a.specs.Station.{ααα}
@@ -50,11 +49,3 @@ sentααα (refused n v) = false
 unfoldable pub alphasInARow : Station → Run → ℕ
 alphasInARow s start = 0
 alphasInARow s (run ▷ e) = goesOn (said (after s run) e) (sentααα (said (after s run) e)) (alphasInARow s run)
-
--- a call is offered  02, T-02
-abbrev pub isCall : Offer → Bool
-isCall (Offer.Text w) = false
-isCall Offer.Over = false
-isCall Offer.End = false
-isCall Offer.Nothing = false
-isCall (Offer.Call i) = true
