@@ -165,7 +165,7 @@ AllHarmless start = Unit {0}
 AllHarmless (run ▷ e) = AllHarmless run × Harmless e
 
 -- "A run of demand 3 ends where a station at Stand-by places a call, of this kind or a later one" (02, T-02): such an event is no step of
--- a run. What a station at Stand-by takes is a call.
+-- a run. What a station at Stand-by takes is a call.  R-194
 abbrev pub isTaken : Answer Reply → Bool
 isTaken (answered r) = r .taken
 isTaken (refused n v) = false

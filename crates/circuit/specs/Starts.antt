@@ -1,5 +1,5 @@
 -- 01, How the promises are judged: "Take a fresh master and a fresh slave"; 02, T-02: "Demand 3 then also starts from what a completed call
--- leaves, where the slave was at Stand-by before it and its repetition count may have begun."
+-- leaves, where the slave was at Stand-by before it and its repetition count may have begun."  R-194
 -- Assumes nothing.
 use mathlib.Core.Path.{_≡_}
 use mathlib.Core.Bool.{true, false, _||_}

@@ -76,7 +76,7 @@ marks Mark.None n = false
 marks Mark.One n = same One n
 marks Mark.Two n = same Two n
 
--- a station without an identity
+-- a station without an identity  R-180
 abbrev pub noIdentity : Own
 noIdentity = record { four = record { 0 = 0; 1 = 0; 2 = 0; 3 = 0 } }
 
@@ -93,7 +93,7 @@ freshSlave =
 abbrev pub firstBurst : Words
 firstBurst = asksFor One
 
--- 02, T-02: a station at Stand-by, and the place: nothing left to wait, and none of its own call blocks heard
+-- 02, T-02: a station at Stand-by with so many steps to wait and none of its own call blocks heard; one that nobody has called yet  R-193
 abbrev pub resting : ℕ → Place
 resting n = StandBy (record { wait = n; heard = Mark.None })
 
@@ -101,7 +101,7 @@ abbrev pub freshAt : Identity → Station
 freshAt i =
     record { role = Slave; place = resting 0; count = 0; case = Letters; plus = false; own = record { four = i }; other = Nobody }
 
--- "8, an identity signal outside table 3a": the index of the first beside it
+-- "8, an identity signal outside table 3a": the index of the first beside it  R-193
 unfoldable pub standing : Identity → Answer Station
 standing i =
     if ltb (firstNot isIdentity (signalsOf i)) 4 then refused 8 (firstNot isIdentity (signalsOf i)) else answered (freshAt i)
