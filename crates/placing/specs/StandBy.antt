@@ -6,10 +6,12 @@
 use mathlib.Core.Path.{_≡_}
 use mathlib.Core.Bool.{Bool, true, false}
 use mathlib.Core.Logic.{_↔_, _⊎_}
+use mathlib.Core.Option.{Option}
 use Prim.Native.Nat.{ℕ, _-_, _<_, _≤_}
 use Rattle.signals.specs.Numbers.{answered}
 use Rattle.mode_a.specs.declared.Role.the-variants.{Master, Slave}
 use Rattle.mode_a.specs.declared.Number.the-variants.{One}
+use Rattle.mode_a.specs.declared.Words.{Words}
 use Rattle.mode_a.specs.declared.Mark.{Mark}
 use Rattle.mode_a.specs.declared.Identity.{Identity}
 use Rattle.mode_a.specs.declared.Waiting.{Waiting}
@@ -21,7 +23,7 @@ use Rattle.mode_a.specs.Calls.{isCallable, callBlock1, callBlock2}
 use Rattle.mode_a.specs.Station.{silence, asksFor}
 use Rattle.runs.specs.Places.{isReceiving, isStandBy, isLost, isCalling}
 use Rattle.runs.specs.Runs.{Event, Run, said, next, after}
-use Rattle.placing.specs.Runs.{takenIn, stepsIn, lastStep, Heard}
+use Rattle.placing.specs.Runs.{takenIn, stepsIn, Step, lastStep, Heard}
 
 -- a call is answered: "The slave answers CS1"
 pub record AnswersCall (r : Reply) : Type 0 where
@@ -65,11 +67,14 @@ pub record Waits (s : Station) (e : Event) (run : Run) : Type 0 where
   -- in the 129th, and ever after, a call that is offered is placed, unless one is answered
   pub calls-again : 128 ≤ stepsIn (next s e) run → (a : Event) (i : Identity) (r : Reply) → a .offer ≡ Offer.Call i → said (after (next s e) run) a ≡ answered r → isReceiving (r .station .place) ≡ false → PlacesCall i r
 
--- "both blocks in succession": the burst is one of the own call blocks, and the step before heard the other, at Stand-by; the
--- identity has four signals of table 3a
+-- the last step heard the one burst, at Stand-by, and now the other is heard
+abbrev pub Successive : Option Step → Words → Words → Words → Type 0
+Successive last now x y = Heard isStandBy (λ b. b ≡ x) last × (now ≡ y)
+
+-- "both blocks in succession", in either order: the own call blocks, of an identity of four signals of table 3a
 pub record BothBlocks (fresh : Station) (run : Run) (e : Event) : Type 0 where
   pub is-callable : isCallable (fresh .own .four) ≡ true
-  pub in-succession : Heard isStandBy (λ b. b ≡ callBlock1 (fresh .own .four)) (lastStep fresh run) × (e .burst ≡ callBlock2 (fresh .own .four)) ⊎ Heard isStandBy (λ b. b ≡ callBlock2 (fresh .own .four)) (lastStep fresh run) × (e .burst ≡ callBlock1 (fresh .own .four))
+  pub in-succession : (Successive (lastStep fresh run) (e .burst) (callBlock1 (fresh .own .four)) (callBlock2 (fresh .own .four))) ⊎ (Successive (lastStep fresh run) (e .burst) (callBlock2 (fresh .own .four)) (callBlock1 (fresh .own .four)))
 
 -- of a run that starts with none of the own call blocks heard
 abbrev pub NoneHeard : Station → Type 0
