@@ -4,43 +4,46 @@
 --     no-127                 so 127 is too small a bound
 --     then-standby           the step after them goes to Stand-by with 128 to wait
 --     answer-to-the-128th    the answer to the 128th still counts: CS1 at the 128th step and at the next
+--     blocks-in-turn         block 1, block 2, block 1
 --     two-cs2, one-then-two-twos   two CS2; CS1 before them does not matter
---     refused-by-cs3         CS3 ends a call at once
---     still-untaken, taken-at-last   a call offered in every step of the wait: 128 times it is not taken, and then it is
+--     refused-by-cs3, fails-alike  CS3 ends a call at once; it leaves what 128 without an answer leave
+--     stays-on, steps-on, of-that-wait   a call offered in every step of the wait: what is assumed of a wait holds
+--     still-untaken, taken-at-last   128 times it is not taken, and then it is
 --     in-order, out-of-order, block-1-twice   both blocks in either order; the same one twice, and then the other
+--     both-were-heard        told from the run
 --     refusal-between        a refused event between the two is no step
 --     answered-in-the-wait   a call is answered with 127 steps left to wait
 -- Assumes nothing.
-use mathlib.Core.Path.{_≡_, refl, ap, sym, subst, _∙_}
+use mathlib.Core.Path.{_≡_, refl, ap, sym, _∙_}
 use mathlib.Core.Bool.{true, false}
-use Prim.Native.Nat.{ℕ, zero, suc, _+_, _-_, _<_, _≤_}
+use Prim.Native.Nat.{ℕ, zero, suc, _-_, _<_, _≤_}
 use native.Mathlib.Omega.{arith}
 use native.Mathlib.Numerals.{add-one}
 use borrow.Author.Tests.{lt-leb, ne-eqb}
 use Rattle.signals.specs.declared.Case.the-variants.{Letters}
-use Rattle.signals.specs.Meaning.{meaningOf, trafficOf, wordNo, rq, cs1, cs2, cs3, beta}
-use Rattle.signals.specs.Numbers.{answered, firstNot}
-use Rattle.mode_a.specs.declared.Role.the-variants.{Master, Slave}
+use Rattle.signals.specs.Meaning.{wordNo, cs1, cs2, cs3, beta}
+use Rattle.signals.specs.Numbers.{Answer, answered, refused, firstNot}
+use Rattle.mode_a.specs.declared.Role.the-variants.{Master}
 use Rattle.mode_a.specs.declared.Number.the-variants.{One, Two}
 use Rattle.mode_a.specs.declared.Words.{Words}
 use Rattle.mode_a.specs.declared.Mark.{Mark}
 use Rattle.mode_a.specs.declared.Identity.{Identity}
 use Rattle.mode_a.specs.declared.Peer.the-variants.{Nobody, Four}
-use Rattle.mode_a.specs.declared.Place.{Place}
 use Rattle.mode_a.specs.declared.Place.the-variants.{Sending, Receiving, Calling}
 use Rattle.mode_a.specs.declared.Offer.{Offer}
 use Rattle.mode_a.specs.declared.Station.{Station}
+use Rattle.mode_a.specs.declared.Reply.{Reply}
 use Rattle.mode_a.specs.Calls.{isIdentity, isCallable, callBlock1, callBlock2, nextBlock}
 use Rattle.mode_a.specs.Station.{words, single, silence, resting, freshAt}
-use Rattle.mode_a.specs.Heard.{firstOf, mayHold, isBlock, isWords, callOf, heardOf}
+use Rattle.mode_a.specs.Heard.{firstOf, isWords, callOf, heardOf}
 use Rattle.mode_a.specs.Step.{done, sound, stepping}
-use Rattle.runs.specs.Places.{isStandBy, isCalling}
+use Rattle.runs.specs.Places.{isStandBy}
 use Rattle.runs.specs.Runs.{Event, Run, start, _▷_, said, next, after}
 use Rattle.placing.specs.Runs.{callsInARow, takenIn, oneStep, stepsIn, StaysAtStandBy}
-use Rattle.placing.specs.StandBy.{BothBlocks}
+use Rattle.placing.specs.StandBy.{Waits, BothBlocks}
 use Rattle.placing.proofs.StepLaws.{atStandBy}
 use Rattle.placing.proofs.CallingLaws.{at-most-128-in-turn}
-use Rattle.placing.proofs.StandByLaws.{hears-call-exactly}
+use Rattle.placing.proofs.StandByLaws.{waits-128, hears-call-exactly}
 
 -- a ship with the identity X K M P calls a coast station with V Q C Y
 abbrev pub ship : Identity
@@ -111,6 +114,15 @@ answer-to-the-128th =
       ap (λ (s : Station). next (next s (hears (single cs1))) (hears (single cs1)) .other) e,
     )
 
+-- "in turn": the first three
+abbrev sentIn : Answer Reply → Words
+sentIn (answered r) = r .sent
+sentIn (refused n v) = silence
+
+pub blocks-in-turn : (sentIn (said set offers) ≡ callBlock1 coast) × (sentIn (said (calledSo 1) quiet) ≡ callBlock2 coast) × (sentIn (said (calledSo 2) quiet) ≡ callBlock1 coast)
+unfolding stepping sound done firstNot heardOf firstOf isWords callOf isCallable isIdentity nextBlock
+blocks-in-turn = (refl, refl, refl)
+
 -- "two successive identical CS1 or CS2"
 pub two-cs2 : after set (start ▷ offers ▷ hears (single cs2) ▷ hears (single cs2)) .place ≡ Sending (record { number = Two; block = words beta beta beta })
 unfolding stepping sound done firstNot heardOf firstOf isWords callOf isCallable isIdentity
@@ -124,6 +136,11 @@ one-then-two-twos = refl
 pub refused-by-cs3 : after set (start ▷ offers ▷ hears (single cs3)) ≡ waitsSo 128
 unfolding stepping sound done firstNot heardOf firstOf isWords callOf isCallable isIdentity
 refused-by-cs3 = refl
+
+-- and so where the 128 run out
+pub fails-alike : (next (calledSo 1) (hears (single cs3)) ≡ waitsSo 128) × (next (calledSo 128) quiet ≡ waitsSo 128)
+unfolding stepping sound done firstNot heardOf firstOf isWords callOf isCallable isIdentity
+fails-alike = (refl, refl)
 
 -- one step of the wait, and n of them: the call is offered again each time, and not taken
 waits-once : (n : ℕ) → next (waitsSo (suc n)) offers ≡ waitsSo n
@@ -154,6 +171,10 @@ unfolding times stepsIn
 steps-on zero l = refl
 steps-on (suc n) l =
     ap (λ (s : Station). oneStep (said s offers) (stepsIn (waitsSo 128) (times n offers start))) (waits-on n (omega arith)) ∙ is-step (128 - n) (stepsIn (waitsSo 128) (times n offers start)) ∙ ap suc (steps-on n (omega arith))
+
+pub of-that-wait : (n : ℕ) → n ≤ 128 → Waits (calledSo 1) (hears (single cs3)) (times n offers start)
+unfolding stepping sound done firstNot heardOf firstOf isWords callOf isCallable isIdentity
+of-that-wait n l = waits-128 (calledSo 1) (hears (single cs3)) refl refl (times n offers start) (stays-on n l)
 
 -- in the 128th step the call is not taken, and in the 129th it is
 pub still-untaken : takenIn (said (after (waitsSo 128) (times 127 offers start)) offers) ≡ false

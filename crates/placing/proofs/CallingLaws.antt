@@ -7,11 +7,10 @@ use mathlib.Core.Path.{_≡_, refl, ap, sym, subst, _∙_}
 use mathlib.Core.Bool.{Bool, true, false, _&&_, and-false, true≢false, false≢true}
 use mathlib.Core.Logic.{_⊎_, inl, inr}
 use mathlib.Core.Option.{Option, none, some}
-use Prim.Native.Nat.{ℕ, suc, _+_, _<_, _≤_}
+use Prim.Native.Nat.{ℕ, _+_, _<_, _≤_}
 use native.Mathlib.Omega.{arith}
-use native.Mathlib.Numerals.{add-one}
 use lib.Dec.{leb}
-use borrow.Author.Tests.{leb-true, leb-false, le-leb, not-true}
+use borrow.Author.Tests.{leb-true, leb-false}
 use Rattle.laws.specs.Choice.{if_then_else_}
 use Rattle.signals.specs.Meaning.{cs3}
 use Rattle.signals.specs.Numbers.{Answer, answered, refused}
@@ -28,16 +27,16 @@ use Rattle.mode_a.specs.declared.Station.{Station}
 use Rattle.mode_a.specs.declared.Doing.the-variants.{Goes, Rests, Reaches}
 use Rattle.mode_a.specs.declared.Reply.{Reply}
 use Rattle.mode_a.specs.Calls.{isIdentity, isCallable, callBlock1, nextBlock}
-use Rattle.mode_a.specs.Station.{silence, same, asksFor, markOf, marks}
+use Rattle.mode_a.specs.Station.{silence, asksFor, markOf, marks}
 use Rattle.mode_a.specs.Heard.{First, Cs, Cs3, Rq, Else, firstOf, heardOf}
 use Rattle.mode_a.specs.Rows.{callsOn as callsOnOr, calling, rowOf}
-use Rattle.mode_a.specs.Step.{movedTo, sends, takes, rested, reached, done, stepping, stationAfter}
+use Rattle.mode_a.specs.Step.{sends, takes, rested, reached, done, stepping, stationAfter}
 use Rattle.mode_a.proofs.HeardLaws.{Says, first-says, first-cs1, first-cs2, first-cs3}
 use Rattle.runs.specs.Places.{isStandBy, isCalling}
 use Rattle.runs.specs.Runs.{Event, Run, start, _▷_, said, after}
 use Rattle.runs.proofs.RowLaws.{markIn, by-calling}
-use Rattle.runs.proofs.StepLaws.{Answers, answers, by-take}
-use Rattle.placing.specs.Runs.{isCallBurst, callsOn, callsInARow, blockNo, callsTo, lastCalled, Step, stepOr, lastStep, Heard}
+use Rattle.runs.proofs.StepLaws.{answers, by-take, keeps}
+use Rattle.placing.specs.Runs.{isCallBurst, callsOn, callsInARow, blockNo, callsTo, lastCalled, Step, stepOr, lastStep, WasHeard}
 use Rattle.placing.specs.Calling.{InTurn, Uncounted, Twice, inTraffic, CallEnds}
 use Rattle.placing.proofs.BurstLaws.{call-1, call-next, next-block}
 use Rattle.placing.proofs.StepLaws.{atCalling, isCall, Does, elsewhere, rests, waits, places, calls-on, does}
@@ -125,7 +124,20 @@ module _ (s : Station) (b : Words) (o : Offer) (r : Reply) (k : ℕ) (l : Option
       go true e = let x = rw e at (kept-step d .small) in absurd (omega arith)
       go false e = refl
 
+-- the count is 0 at Calling
+count-step : (s : Station) (b : Words) (o : Offer) (r : Reply) → Does s b o r → isCalling (r .station .place) ≡ true → r .station .count ≡ 0
+count-step s b o r (elsewhere x y c t) k = absurd (true≢false (sym k ∙ y))
+count-step s b o r (rests x p c t) k = absurd (true≢false (sym k ∙ ap isCalling p))
+count-step s b o r (waits w e q) k = ap (λ (r : Reply). r .station .count) q
+count-step s b o r (places w i e z y q) k = ap (λ (r : Reply). r .station .count) q
+count-step s b o r (calls-on c e m q) k = ap (λ (r : Reply). r .station .count) q
+
 module _ (fresh : Station) (not-calling : isCalling (fresh .place) ≡ false) where
+  count-run : (run : Run) → isCalling (after fresh run .place) ≡ true → after fresh run .count ≡ 0
+  count-run start k = absurd (true≢false (sym k ∙ not-calling))
+  count-run (run ▷ e) k =
+      keeps (λ (s : Station). isCalling (s .place) ≡ true → s .count ≡ 0) (after fresh run) e (λ r p h. count-step (after fresh run) (e .burst) (e .offer) r (does (after fresh run) (e .burst) (e .offer) r p)) (count-run run) k
+
   kept-run : (run : Run) → Kept (after fresh run .place) (callsInARow fresh run) (lastCalled fresh run)
   unfolding callsInARow lastCalled
   kept-run start = outside (fresh .place) none not-calling
@@ -142,6 +154,7 @@ module _ (fresh : Station) (not-calling : isCalling (fresh .place) ≡ false) wh
         sents = λ c e. sym (ap sentOf e) ∙ kept-run run .is;
         no-others = λ x. sym (kept-run run .is) ∙ sent-none (after fresh run .place) x;
         to = kept-run run .to;
+        count-0 = count-run run;
         at-most = kept-run run .small;
         no-129th = λ e r p. no-more (after fresh run) (e .burst) (e .offer) r _ _ (kept-run run) (does (after fresh run) (e .burst) (e .offer) r p);
         in-turn = λ e r p f. rw p (in-turn-step (after fresh run) (e .burst) (e .offer) r _ _ (kept-run run) (does (after fresh run) (e .burst) (e .offer) r p) f);
@@ -154,7 +167,7 @@ module _ (s : Station) (b : Words) (o : Offer) (r : Reply) (answer : stepping s 
   unfolding heardOf
   from-calling = answers s b o r answer .is-done ∙ ap (λ (p : Place). done s b o (rowOf (s .role) p (heardOf (s .own) b))) here
 
-  -- "Calling has its 128"
+  -- it has its 128 in place of the count
   pub calling-is-uncounted : Uncounted s r
   unfolding done
   calling-is-uncounted =
@@ -269,7 +282,7 @@ marked Rq n e = absurd (false≢true e)
 marked Else n e = absurd (false≢true e)
 
 -- so the same twice is told from the run
-was-heard : (l : Option Step) (n : Number) → marks (lastMark l) n ≡ true → Heard isCalling (λ b. b .0 ≡ asksFor n .0) l
+was-heard : (l : Option Step) (n : Number) → marks (lastMark l) n ≡ true → WasHeard isCalling (λ b. b .0 ≡ asksFor n .0) l
 was-heard none n e = absurd (false≢true e)
 was-heard (some x) n e = go (isCalling (x .place)) refl e
   where
@@ -277,7 +290,7 @@ was-heard (some x) n e = go (isCalling (x .place)) refl e
     go true p e = (p, cs-word (x .burst .0) n (marked (firstOf (x .burst .0)) n e))
     go false p e = absurd (false≢true e)
 
-heard-marks : (l : Option Step) (n : Number) → Heard isCalling (λ b. b .0 ≡ asksFor n .0) l → marks (lastMark l) n ≡ true
+heard-marks : (l : Option Step) (n : Number) → WasHeard isCalling (λ b. b .0 ≡ asksFor n .0) l → marks (lastMark l) n ≡ true
 heard-marks none n h = absurd h
 heard-marks (some x) n h = rw (h .0, heard-cs (x .burst .0) n (h .1)) (marks-own n)
 

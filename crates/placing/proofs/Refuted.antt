@@ -9,19 +9,18 @@
 --     no-call-of-zeros        a station answers its two call blocks whatever its identity: 0 RQ 0 and 0 0 RQ, where it has none
 -- Assumes nothing.
 use mathlib.Core.Path.{_≡_, refl, sym, _∙_}
-use mathlib.Core.Bool.{true, false, false≢true}
-use Prim.Native.Nat.{ℕ}
+use mathlib.Core.Bool.{true, false≢true}
 use native.Mathlib.Omega.{arith}
 use Rattle.signals.specs.Meaning.{cs1, cs2}
 use Rattle.signals.specs.Numbers.{firstNot}
 use Rattle.mode_a.specs.declared.Offer.{Offer}
 use Rattle.mode_a.specs.declared.Station.{Station}
-use Rattle.mode_a.specs.Calls.{isIdentity, isCallable, callBlock1, callBlock2, nextBlock}
+use Rattle.mode_a.specs.Calls.{isIdentity, isCallable, callBlock1, callBlock2}
 use Rattle.mode_a.specs.Station.{single, noIdentity, freshAt}
 use Rattle.mode_a.specs.Heard.{firstOf, isWords, callOf, heardOf}
 use Rattle.mode_a.specs.Step.{done, sound, stepping}
 use Rattle.runs.specs.Places.{isReceiving, isStandBy, isCalling}
-use Rattle.runs.specs.Runs.{Event, Run, start, _▷_, said, next, after}
+use Rattle.runs.specs.Runs.{Event, Run, start, _▷_, said, after}
 use Rattle.placing.specs.Runs.{takenIn, stepsIn, StaysAtStandBy}
 use Rattle.placing.specs.Calling.{inTraffic}
 use Rattle.placing.proofs.CallExamples.{coast, set, hears, quiet, offers, times, waitsSo, stays-on, steps-on, still-untaken, block1, block2}

@@ -7,7 +7,7 @@ use mathlib.Core.Path.{_≡_, refl, ap, sym, subst, _∙_}
 use mathlib.Core.Bool.{Bool, true, false, true≢false, false≢true}
 use mathlib.Core.Logic.{_⊎_, inl, inr}
 use mathlib.Core.Option.{Option, none, some}
-use Prim.Native.Nat.{ℕ, suc, _-_, _<_, _≤_}
+use Prim.Native.Nat.{ℕ, _-_}
 use native.Mathlib.Omega.{arith}
 use lib.Dec.{eqb}
 use borrow.Author.Tests.{eqb-true, eqb-false}
@@ -32,7 +32,7 @@ use Rattle.runs.specs.Runs.{Event, Run, start, _▷_, said, next, after}
 use Rattle.runs.proofs.PlaceLaws.{one-number}
 use Rattle.runs.proofs.StepLaws.{answers, standby-answers, standby-listens, keeps}
 use Rattle.placing.specs.Runs.{takenIn, oneStep, stepsIn, StaysAtStandBy, Step, stepOr, lastStep}
-use Rattle.placing.specs.StandBy.{AnswersCall, PlacesCall, WaitsOn, OneOfThree, Stands, Waits, Successive, BothBlocks, NoneHeard, HearsCall}
+use Rattle.placing.specs.StandBy.{AnswersCall, PlacesCall, OneOfThree, Stands, Waits, Successive, BothBlocks, NoneHeard, HearsCall}
 use Rattle.placing.proofs.OwnLaws.{own-kept}
 use Rattle.placing.proofs.BurstLaws.{Says, call-says, hears-1, hears-2}
 use Rattle.placing.proofs.StepLaws.{atStandBy, is-standby, isCall, Does, elsewhere, rests, waits, places, calls-on, does}

@@ -1,17 +1,15 @@
 -- One step, as far as calls are concerned: it calls on, it places a call, it waits, it comes to Stand-by, or it is elsewhere then.
 --     does          of every step
---     atCalling, atStandBy, is-calling, is-standby   what the two places carry
+--     atCalling, atStandBy, is-standby   what the two places carry
 -- Assumes nothing.
 use mathlib.Core.Path.{_≡_, refl, ap, sym, subst, _∙_}
 use mathlib.Core.Bool.{Bool, true, false, _&&_, and-false, true≢false}
-use Prim.Native.Nat.{ℕ, _+_}
+use Prim.Native.Nat.{_+_}
 use lib.Dec.{leb}
 use Rattle.laws.specs.Choice.{if_then_else_}
-use Rattle.signals.specs.Meaning.{meaningOf, trafficOf, cs3}
+use Rattle.signals.specs.Meaning.{cs3}
 use Rattle.signals.specs.Numbers.{answered}
-use Rattle.mode_a.specs.declared.Role.the-variants.{Slave}
 use Rattle.mode_a.specs.declared.Number.{Number}
-use Rattle.mode_a.specs.declared.Number.the-variants.{One}
 use Rattle.mode_a.specs.declared.Words.{Words}
 use Rattle.mode_a.specs.declared.Identity.{Identity}
 use Rattle.mode_a.specs.declared.Waiting.{Waiting}
@@ -20,16 +18,15 @@ use Rattle.mode_a.specs.declared.Place.{Place}
 use Rattle.mode_a.specs.declared.Place.the-variants.{Sending, Turning, Opening, Ending, Receiving, Asking, StandBy, Lost, Calling}
 use Rattle.mode_a.specs.declared.Offer.{Offer}
 use Rattle.mode_a.specs.declared.Station.{Station}
-use Rattle.mode_a.specs.declared.Listening.{Listening}
 use Rattle.mode_a.specs.declared.Doing.{Doing}
 use Rattle.mode_a.specs.declared.Doing.the-variants.{Rests}
 use Rattle.mode_a.specs.declared.Reply.{Reply}
 use Rattle.mode_a.specs.Calls.{isIdentity, isCallable, nextBlock}
-use Rattle.mode_a.specs.Station.{single, silence, other, asksFor, resting}
-use Rattle.mode_a.specs.Heard.{firstOf, mayHold, isBlock, callOf, heardOf}
+use Rattle.mode_a.specs.Station.{single, other, asksFor, resting}
+use Rattle.mode_a.specs.Heard.{firstOf, callOf, heardOf}
 use Rattle.mode_a.specs.Over.{listenedAll}
 use Rattle.mode_a.specs.Rows.{rowOf}
-use Rattle.mode_a.specs.Step.{movedTo, heardAt, trafficIn, begun, called, waitsOn, sends, takes, repeats, reached, rested, acceptsBy, accepts, isOver, done, soundPlace, stepping}
+use Rattle.mode_a.specs.Step.{movedTo, heardAt, trafficIn, called, waitsOn, sends, takes, repeats, reached, accepts, done, soundPlace, stepping}
 use Rattle.runs.specs.Places.{isStandBy, isCalling}
 use Rattle.runs.specs.Runs.{InOrder}
 use Rattle.runs.proofs.RowLaws.{markIn, by-sending, by-turning, by-opening, by-ending, by-receiving, by-asking, by-standing, by-calling}
@@ -59,17 +56,6 @@ atStandBy f a Asking = a
 atStandBy f a (StandBy w) = f w
 atStandBy f a Lost = a
 atStandBy f a (Calling c) = a
-
-pub is-calling : (p : Place) → isCalling p ≡ true → (c : Called) × (p ≡ Calling c)
-is-calling (Sending h) e = absurd (true≢false (sym e))
-is-calling (Turning n) e = absurd (true≢false (sym e))
-is-calling Opening e = absurd (true≢false (sym e))
-is-calling (Ending x) e = absurd (true≢false (sym e))
-is-calling (Receiving n) e = absurd (true≢false (sym e))
-is-calling Asking e = absurd (true≢false (sym e))
-is-calling (StandBy w) e = absurd (true≢false (sym e))
-is-calling Lost e = absurd (true≢false (sym e))
-is-calling (Calling c) e = (c, refl)
 
 pub is-standby : (p : Place) → isStandBy p ≡ true → (w : Waiting) × (p ≡ StandBy w)
 is-standby (Sending h) e = absurd (true≢false (sym e))

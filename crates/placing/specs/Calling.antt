@@ -7,12 +7,11 @@ use mathlib.Core.Path.{_≡_}
 use mathlib.Core.Bool.{Bool, true, false, _||_}
 use mathlib.Core.Logic.{_↔_, _⊎_}
 use mathlib.Core.Option.{some}
-use Prim.Native.Nat.{ℕ, _≤_}
+use Prim.Native.Nat.{_≤_}
 use lib.Dec.{eqb}
 use Rattle.signals.specs.Meaning.{cs3}
 use Rattle.signals.specs.Numbers.{answered}
 use Rattle.mode_a.specs.declared.Number.{Number}
-use Rattle.mode_a.specs.declared.Words.{Words}
 use Rattle.mode_a.specs.declared.Identity.{Identity}
 use Rattle.mode_a.specs.declared.Called.{Called}
 use Rattle.mode_a.specs.declared.Place.{Place}
@@ -25,7 +24,7 @@ use Rattle.mode_a.specs.Station.{silence, asksFor}
 use Rattle.mode_a.specs.Step.{sends, rested, reached, takes}
 use Rattle.runs.specs.Places.{placeNo, isSending, isStandBy, isLost, isCalling}
 use Rattle.runs.specs.Runs.{Event, Run, _▷_, said, after}
-use Rattle.placing.specs.Runs.{isCallBurst, callsInARow, blockNo, lastCalled, lastStep, Heard}
+use Rattle.placing.specs.Runs.{isCallBurst, callsInARow, blockNo, lastCalled, lastStep, WasHeard}
 
 -- "sends call blocks 1 and 2 in turn for at most 128 cycles", of every run of a station that is not in the middle of a call at its start
 pub record InTurn (fresh : Station) (run : Run) : Type 0 where
@@ -34,6 +33,8 @@ pub record InTurn (fresh : Station) (run : Run) : Type 0 where
   pub no-others : isCalling (after fresh run .place) ≡ false → callsInARow fresh run ≡ 0
   -- the identity called is that of the last call taken, and all four of its signals are of table 3a
   pub to : (c : Called) → after fresh run .place ≡ Calling c → (lastCalled fresh run ≡ some (c .to)) × (isCallable (c .to) ≡ true)
+  -- its repetition count is 0
+  pub count-0 : isCalling (after fresh run .place) ≡ true → after fresh run .count ≡ 0
   -- "for at most 128 cycles"
   pub at-most : callsInARow fresh run ≤ 128
   -- after 128 the next step sends none, whatever it hears and is offered
@@ -45,7 +46,7 @@ pub record InTurn (fresh : Station) (run : Run) : Type 0 where
   pub begins : (e : Event) (r : Reply) (i : Identity) → said (after fresh run) e ≡ answered r → e .offer ≡ Offer.Call i → r .taken ≡ true →
       (callsInARow fresh run ≡ 0) × (r .sent ≡ callBlock1 i)
 
--- A step from Calling: the repetition count is not for it ("Calling has its 128"), and no block is accepted there.
+-- A step from Calling, whatever is heard there: it has its 128 in place of the repetition count, and accepts no block.
 pub record Uncounted (s : Station) (r : Reply) : Type 0 where
   pub never-lost : isLost (r .station .place) ≡ false
   pub count-0 : r .station .count ≡ 0
@@ -56,7 +57,7 @@ pub record Uncounted (s : Station) (r : Reply) : Type 0 where
 -- "two successive identical CS1 or CS2": the control signal of a number is heard, and the step before heard the same, at Calling
 pub record Twice (fresh : Station) (run : Run) (e : Event) : Type 0 where
   pub number : Number
-  pub before : Heard isCalling (λ b. b .0 ≡ asksFor number .0) (lastStep fresh run)
+  pub before : WasHeard isCalling (λ b. b .0 ≡ asksFor number .0) (lastStep fresh run)
   pub now : e .burst .0 ≡ asksFor number .0
 
 -- at Sending or Ending: in traffic

@@ -84,6 +84,6 @@ lastStep s start = none
 lastStep s (run ▷ e) = stepOr (said (after s run) e) (record { place = after s run .place; burst = e .burst }) (lastStep s run)
 
 -- there is such a step; it began at such a place, and heard such a burst
-abbrev pub Heard : (Place → Bool) → (Words → Type 0) → Option Step → Type 0
-Heard at is none = ⊥
-Heard at is (some x) = (at (x .place) ≡ true) × is (x .burst)
+abbrev pub WasHeard : (Place → Bool) → (Words → Type 0) → Option Step → Type 0
+WasHeard at is none = ⊥
+WasHeard at is (some x) = (at (x .place) ≡ true) × is (x .burst)

@@ -1,13 +1,13 @@
 -- 02, T-02: "01's Stand-by row is amended: it hears and places calls." "on CS3 waits 128 cycles in stand-by"; "The slave answers CS1
--- after both blocks in succession." 001: "waits for a time of at least 128 cycles before sending the same 'call signal' again" (3.5.4,
--- 3.5.7); "The called station becomes the slave station .. following the consecutive reception of 'call block 1' and 'call block 2',
--- after which it sends 'control signal 1'" (3.5.5).
+-- after both blocks in succession." 001: "waits for a time of at least 128 cycles before sending the same 'call signal' again" (3.5.4),
+-- "waits 128 cycles" (3.5.7); "The called station becomes the slave station .. following the consecutive reception of 'call block 1' and
+-- 'call block 2', after which it sends 'control signal 1'" (3.5.5).
 -- Assumes nothing.
 use mathlib.Core.Path.{_≡_}
-use mathlib.Core.Bool.{Bool, true, false}
+use mathlib.Core.Bool.{true, false}
 use mathlib.Core.Logic.{_↔_, _⊎_}
 use mathlib.Core.Option.{Option}
-use Prim.Native.Nat.{ℕ, _-_, _<_, _≤_}
+use Prim.Native.Nat.{_-_, _<_, _≤_}
 use Rattle.signals.specs.Numbers.{answered}
 use Rattle.mode_a.specs.declared.Role.the-variants.{Master, Slave}
 use Rattle.mode_a.specs.declared.Number.the-variants.{One}
@@ -23,7 +23,7 @@ use Rattle.mode_a.specs.Calls.{isCallable, callBlock1, callBlock2}
 use Rattle.mode_a.specs.Station.{silence, asksFor}
 use Rattle.runs.specs.Places.{isReceiving, isStandBy, isLost, isCalling}
 use Rattle.runs.specs.Runs.{Event, Run, said, next, after}
-use Rattle.placing.specs.Runs.{takenIn, stepsIn, Step, lastStep, Heard}
+use Rattle.placing.specs.Runs.{takenIn, stepsIn, Step, lastStep, WasHeard}
 
 -- a call is answered: "The slave answers CS1"
 pub record AnswersCall (r : Reply) : Type 0 where
@@ -69,7 +69,7 @@ pub record Waits (s : Station) (e : Event) (run : Run) : Type 0 where
 
 -- the last step heard the one burst, at Stand-by, and now the other is heard
 abbrev pub Successive : Option Step → Words → Words → Words → Type 0
-Successive last now x y = Heard isStandBy (λ b. b ≡ x) last × (now ≡ y)
+Successive last now x y = WasHeard isStandBy (λ b. b ≡ x) last × (now ≡ y)
 
 -- "both blocks in succession", in either order: the own call blocks, of an identity of four signals of table 3a
 pub record BothBlocks (fresh : Station) (run : Run) (e : Event) : Type 0 where
