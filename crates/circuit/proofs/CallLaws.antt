@@ -7,8 +7,8 @@
 use mathlib.Core.Path.{_≡_, refl, ap, sym, subst, _∙_}
 use mathlib.Core.Bool.{Bool, true, false, _||_, and-false, true≢false}
 use mathlib.Core.Logic.{_⊎_, inl, inr}
-use mathlib.Core.List.{List, [], _∷_}
-use Prim.Native.Nat.{ℕ, _+_}
+use mathlib.Core.List.{[], _∷_}
+use Prim.Native.Nat.{_+_}
 use native.Mathlib.Omega.{arith}
 use lib.Dec.{eqb, leb}
 use borrow.Author.Tests.{leb-false, le-leb}
@@ -37,15 +37,15 @@ use Rattle.mode_a.specs.Calls.{nextBlock}
 use Rattle.mode_a.specs.Station.{silence, ααα, asksFor, markOf, marks, resting}
 use Rattle.mode_a.specs.Heard.{First, Cs, Else, Heard, firstOf, mayHold, isBlock, isWords, callOf, heardOf}
 use Rattle.mode_a.specs.Over.{listenedAll}
-use Rattle.mode_a.specs.Rows.{rowOf, bothHeard, callsOn, calling}
-use Rattle.mode_a.specs.Step.{sends, holds, takes, begun, waitsOn, listens, reached, repeats, isOver, acceptsBy, done}
+use Rattle.mode_a.specs.Rows.{rowOf, bothHeard, calling}
+use Rattle.mode_a.specs.Step.{sends, holds, takes, reached, repeats, isOver, done}
 use Rattle.runs.specs.Places.{isSending, isEnding, isStandBy, isCalling}
 use Rattle.runs.specs.Runs.{start, _▷_, InOrder, taking}
 use Rattle.runs.proofs.RowLaws.{by-sending, by-turning, by-opening, by-ending, by-receiving, by-asking, by-standing}
 use Rattle.runs.proofs.StepLaws.{Answers as Answered, answers, oneMore, by-repeat, by-take, by-accept, by-listen, standby-answers, standby-listens, lost-stays}
-use Rattle.circuit.specs.Circuit.{Event, heard, Harmless, Run, Direction, nothingYet, Circuit, said, isTaken, placesCall, blockOf, takenIf, confirmedBy, acceptedBy, answeredBy, goesOn, next, after, AllHarmless, NoCallPlaced}
+use Rattle.circuit.specs.Circuit.{Event, heard, Harmless, Run, nothingYet, Circuit, said, placesCall, blockOf, takenIf, confirmedBy, acceptedBy, answeredBy, goesOn, next, after, AllHarmless, NoCallPlaced}
 use Rattle.circuit.specs.Starts.{CallPlaced, Begins, with-block, with-end, CallCompleted, LeavesCompleted}
-use Rattle.circuit.proofs.DamageLaws.{Mangled, mangled, no-block, no-words, FirstIs, said as as-said, unsaid, first-heard}
+use Rattle.circuit.proofs.DamageLaws.{mangled, no-block, no-words, FirstIs, said as as-said, unsaid, first-heard}
 use Rattle.circuit.proofs.StepLaws.{ααα-signals, asks-first, call-no-block}
 use Rattle.circuit.proofs.RunLaws.{quiet}
 

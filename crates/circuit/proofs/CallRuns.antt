@@ -8,7 +8,6 @@ use mathlib.Core.Path.{_≡_, refl, sym, subst}
 use mathlib.Core.List.{List, [], _∷_, _++_}
 use Rattle.signals.specs.Meaning.{meaningOf, trafficOf, wordNo, figures, beta}
 use Rattle.signals.specs.Numbers.{firstNot}
-use Rattle.mode_a.specs.declared.Words.{Words}
 use Rattle.mode_a.specs.declared.Identity.{Identity}
 use Rattle.mode_a.specs.declared.Offer.{Offer}
 use Rattle.mode_a.specs.declared.Peer.the-variants.{Four}
@@ -18,7 +17,7 @@ use Rattle.mode_a.specs.Heard.{firstOf, mayHold, isBlock, isWords, callOf, hear
 use Rattle.mode_a.specs.Over.{query, cross, listened}
 use Rattle.mode_a.specs.Step.{trafficIn, done, sound, stepping}
 use Rattle.runs.specs.Runs.{start}
-use Rattle.circuit.specs.Circuit.{Event, Run, traffic, signalsIn, nothingYet, Circuit, next, after}
+use Rattle.circuit.specs.Circuit.{Event, traffic, signalsIn, nothingYet, Circuit, next, after}
 use Rattle.circuit.specs.Starts.{CallPlaced, with-block, CallCompleted, placed}
 use Rattle.circuit.specs.Demand.{Demand3}
 use Rattle.circuit.proofs.Computed.{run-of, through, computed}

@@ -17,7 +17,7 @@ use Rattle.mode_a.specs.Station.{ααα}
 use Rattle.mode_a.specs.Heard.{isBlock}
 use Rattle.mode_a.specs.Step.{sound, called}
 use Rattle.runs.specs.Places.{isSending, isEnding, isStandBy, isCalling}
-use Rattle.circuit.specs.Circuit.{Event, Harmless, Run, Direction, nothingYet, Circuit, fresh, next, after, AllHarmless, NoCallPlaced}
+use Rattle.circuit.specs.Circuit.{Event, Harmless, Run, nothingYet, Circuit, fresh, next, after, AllHarmless, NoCallPlaced}
 
 -- A station at Stand-by has just placed a call, and its first call burst is on the way to a station at Stand-by: whatever that one's
 -- identity and whatever it has heard before. Nothing has been carried yet.

@@ -26,7 +26,7 @@ use Rattle.mode_a.specs.Rows.{rowOf}
 use Rattle.mode_a.specs.Step.{done, sound, stepping, stationAfter}
 use Rattle.runs.specs.Places.{isStandBy, isLost, counting}
 use Rattle.runs.specs.Runs.{Event, Run, start, _▷_, said, after, isCall}
-use Rattle.runs.proofs.StepLaws.{answers, is-answered, own-kept, keeps}
+use Rattle.runs.proofs.StepLaws.{answers, is-answered, own-lasts, keeps}
 use Rattle.counts.specs.Runs.{stays, uncounted, repetition, goesOn, inARow, sentααα, alphasInARow}
 use Rattle.counts.specs.Counts.{Counted}
 use Rattle.counts.proofs.StepLaws.{Fact, step-fact, isRepeats}
@@ -113,14 +113,8 @@ module _ (fresh : Station) (none : fresh .count ≡ 0) (open-place : isLost (fre
       go k (answered r) p = total-next (after fresh run) (e .burst) (e .offer) r (alphasInARow fresh run) p k
       go k (refused n v) p = k
 
-  -- the own identity is that of the start
-  own-run : (run : Run) → after fresh run .own ≡ fresh .own
-  own-run start = refl
-  own-run (run ▷ e) =
-      keeps (λ (s : Station). s .own ≡ fresh .own) (after fresh run) e (λ r p i. ap (λ (r : Reply). r .station .own) (answers (after fresh run) (e .burst) (e .offer) r p .is-done) ∙ own-kept (after fresh run) (e .burst) (e .offer) _ ∙ i) (own-run run)
-
   unheard-run : (run : Run) (b : Words) → callOf (fresh .own .four) b ≡ Mark.None → callOf (after fresh run .own .four) b ≡ Mark.None
-  unheard-run run b h = rw (own-run run) h
+  unheard-run run b h = rw (own-lasts fresh run) h
 
   -- Lost and Stand-by stay
   lost-run : (run : Run) (e : Event) → isLost (after fresh run .place) ≡ true → isLost (after fresh (run ▷ e) .place) ≡ true

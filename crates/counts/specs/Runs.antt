@@ -4,7 +4,7 @@
 -- Whether a step is such a repetition is told from what was heard and from the place before it and the place that it leads to, and
 -- does not depend on the count that the station keeps. How often ααα was sent is told from the bursts of the run.
 -- Assumes nothing.
-use mathlib.Core.Bool.{Bool, true, false, not, _&&_}
+use mathlib.Core.Bool.{Bool, false, not, _&&_}
 use Prim.Native.Nat.{ℕ, suc}
 use Rattle.laws.specs.Choice.{if_then_else_}
 use Rattle.signals.specs.Numbers.{Answer, answered, refused}

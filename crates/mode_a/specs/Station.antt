@@ -21,7 +21,6 @@ use Rattle.mode_a.specs.declared.Mark.{Mark}
 use Rattle.mode_a.specs.declared.Identity.{Identity}
 use Rattle.mode_a.specs.declared.Own.{Own}
 use Rattle.mode_a.specs.declared.Peer.the-variants.{Nobody}
-use Rattle.mode_a.specs.declared.Waiting.{Waiting}
 use Rattle.mode_a.specs.declared.Place.{Place}
 use Rattle.mode_a.specs.declared.Place.the-variants.{Opening, Receiving, StandBy}
 use Rattle.mode_a.specs.declared.Station.{Station}

@@ -18,7 +18,6 @@ use Rattle.mode_a.specs.declared.Number.{Number}
 use Rattle.mode_a.specs.declared.Number.the-variants.{One}
 use Rattle.mode_a.specs.declared.Mark.{Mark}
 use Rattle.mode_a.specs.declared.Identity.{Identity}
-use Rattle.mode_a.specs.declared.Peer.{Peer}
 use Rattle.mode_a.specs.declared.Peer.the-variants.{Nobody, Four}
 use Rattle.mode_a.specs.declared.Waiting.{Waiting}
 use Rattle.mode_a.specs.declared.Words.{Words}

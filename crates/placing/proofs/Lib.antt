@@ -1,12 +1,10 @@
 -- Calls of one station.
---     OwnLaws        no step changes the own identity
 --     BurstLaws      what is a call burst, and which of the own call blocks a burst is
 --     StepLaws       what a step does, as far as calls are concerned
 --     CallingLaws    the calling station: at most 128 call bursts, in turn; when a call is answered, and when it fails
 --     StandByLaws    Stand-by: what it does; the wait after a call that failed; when a call is heard
 --     CallExamples   single runs: the bounds are reached
 --     Refuted        rules that are none
-pub mod OwnLaws
 pub mod BurstLaws
 pub mod StepLaws
 pub mod CallingLaws

@@ -24,16 +24,15 @@ use Rattle.mode_a.specs.declared.Offer.{Offer}
 use Rattle.mode_a.specs.declared.Station.{Station}
 use Rattle.mode_a.specs.declared.Reply.{Reply}
 use Rattle.mode_a.specs.Calls.{isCallable, callBlock1, callBlock2}
-use Rattle.mode_a.specs.Heard.{callOf, heardOf}
-use Rattle.mode_a.specs.Rows.{rowOf, bothHeard}
+use Rattle.mode_a.specs.Heard.{callOf}
+use Rattle.mode_a.specs.Rows.{bothHeard}
 use Rattle.mode_a.specs.Step.{called, waitsOn, listens, stepping, stationAfter}
 use Rattle.runs.specs.Places.{isReceiving, isStandBy, isLost, isCalling}
 use Rattle.runs.specs.Runs.{Event, Run, start, _▷_, said, next, after}
 use Rattle.runs.proofs.PlaceLaws.{one-number}
-use Rattle.runs.proofs.StepLaws.{answers, standby-answers, standby-listens, keeps}
+use Rattle.runs.proofs.StepLaws.{answers, standby-answers, standby-listens, keeps, own-lasts}
 use Rattle.placing.specs.Runs.{takenIn, oneStep, stepsIn, StaysAtStandBy, Step, stepOr, lastStep}
 use Rattle.placing.specs.StandBy.{AnswersCall, PlacesCall, OneOfThree, Stands, Waits, Successive, BothBlocks, NoneHeard, HearsCall}
-use Rattle.placing.proofs.OwnLaws.{own-kept}
 use Rattle.placing.proofs.BurstLaws.{Says, call-says, hears-1, hears-2}
 use Rattle.placing.proofs.StepLaws.{atStandBy, is-standby, isCall, Does, elsewhere, rests, waits, places, calls-on, does}
 
@@ -237,13 +236,6 @@ module _ (i : Identity) (b : Words) where
 
 -- "The slave answers CS1 after both blocks in succession"
 module _ (fresh : Station) (none-heard : NoneHeard fresh) where
-  own-run : (run : Run) → after fresh run .own ≡ fresh .own
-  own-run start = refl
-  own-run (run ▷ e) = keeps (λ (s : Station). s .own ≡ fresh .own) (after fresh run) e (λ r p k. step r p k) (own-run run)
-    where
-      step : (r : Reply) → said (after fresh run) e ≡ answered r → after fresh run .own ≡ fresh .own → r .station .own ≡ fresh .own
-      step r p k = ap (λ (r : Reply). r .station .own) (answers (after fresh run) (e .burst) (e .offer) r p .is-done) ∙ own-kept (after fresh run) (e .burst) (e .offer) (rowOf (after fresh run .role) (after fresh run .place) (heardOf (after fresh run .own) (e .burst))) ∙ k
-
   mark-run : (run : Run) → isStandBy (after fresh run .place) ≡ true → heardIn (after fresh run .place) ≡ lastMark (fresh .own .four) (lastStep fresh run)
   unfolding lastStep
   mark-run start h = let w = is-standby (fresh .place) h in ap heardIn (w .1) ∙ none-heard (w .0) (w .1)
@@ -251,7 +243,7 @@ module _ (fresh : Station) (none-heard : NoneHeard fresh) where
     where
       go : (isStandBy (after fresh run .place) ≡ true → heardIn (after fresh run .place) ≡ lastMark (fresh .own .four) (lastStep fresh run)) → (a : Answer Reply) → said (after fresh run) e ≡ a → isStandBy (stationAfter (after fresh run) a .place) ≡ true → heardIn (stationAfter (after fresh run) a .place) ≡ lastMark (fresh .own .four) (stepOr a (record { place = after fresh run .place; burst = e .burst }) (lastStep fresh run))
       go k (answered r) p h =
-          mark-step (after fresh run) (e .burst) (e .offer) r (does (after fresh run) (e .burst) (e .offer) r p) h ∙ ap (λ (x : Own). if isStandBy (after fresh run .place) then callOf (x .four) (e .burst) else Mark.None) (own-run run)
+          mark-step (after fresh run) (e .burst) (e .offer) r (does (after fresh run) (e .burst) (e .offer) r p) h ∙ ap (λ (x : Own). if isStandBy (after fresh run .place) then callOf (x .four) (e .burst) else Mark.None) (own-lasts fresh run)
       go k (refused n v) p h = k h
 
   module _ (run : Run) (w : Waiting) (here : after fresh run .place ≡ StandBy w) (e : Event) (r : Reply) (answer : said (after fresh run) e ≡ answered r) where
@@ -259,7 +251,7 @@ module _ (fresh : Station) (none-heard : NoneHeard fresh) where
     mark-now = sym (ap heardIn here) ∙ mark-run run (ap isStandBy here)
 
     both-now : bothHeard (w .heard) (callOf (after fresh run .own .four) (e .burst)) ≡ bothHeard (lastMark (fresh .own .four) (lastStep fresh run)) (callOf (fresh .own .four) (e .burst))
-    both-now = rw (mark-now, own-run run)
+    both-now = rw (mark-now, own-lasts fresh run)
 
     pub hears-call-exactly : HearsCall fresh run e r
     hears-call-exactly =

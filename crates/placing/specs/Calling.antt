@@ -8,7 +8,6 @@ use mathlib.Core.Bool.{Bool, true, false, _||_}
 use mathlib.Core.Logic.{_↔_, _⊎_}
 use mathlib.Core.Option.{some}
 use Prim.Native.Nat.{_≤_}
-use lib.Dec.{eqb}
 use Rattle.signals.specs.Meaning.{cs3}
 use Rattle.signals.specs.Numbers.{answered}
 use Rattle.mode_a.specs.declared.Number.{Number}
@@ -22,7 +21,7 @@ use Rattle.mode_a.specs.declared.Reply.{Reply}
 use Rattle.mode_a.specs.Calls.{isCallable, callBlock1}
 use Rattle.mode_a.specs.Station.{silence, asksFor}
 use Rattle.mode_a.specs.Step.{sends, rested, reached, takes}
-use Rattle.runs.specs.Places.{placeNo, isSending, isStandBy, isLost, isCalling}
+use Rattle.runs.specs.Places.{isEnding, isSending, isStandBy, isLost, isCalling}
 use Rattle.runs.specs.Runs.{Event, Run, _▷_, said, after}
 use Rattle.placing.specs.Runs.{isCallBurst, callsInARow, blockNo, lastCalled, lastStep, WasHeard}
 
@@ -62,7 +61,7 @@ pub record Twice (fresh : Station) (run : Run) (e : Event) : Type 0 where
 
 -- at Sending or Ending: in traffic
 abbrev pub inTraffic : Place → Bool
-inTraffic p = isSending p || eqb (placeNo p) 3
+inTraffic p = isSending p || isEnding p
 
 -- what ends a call that was placed, of a run that starts outside Calling
 pub record CallEnds (fresh : Station) (run : Run) (c : Called) (e : Event) (r : Reply) : Type 0 where

@@ -5,7 +5,7 @@
 --     placed, oneMore                 the same station at a place; with one more repetition
 --     by-repeat, by-take, by-accept   what is so of each answer that the row leaves open is so of the answer
 --     by-listen                       the same of a station at Stand-by that answers no call
---     own-kept                        no step changes the own identity
+--     own-kept, own-lasts             no step changes the own identity, and so no run
 --     lost-stays                      silent for good
 --     standby-answers, standby-listens   what Stand-by does, by whether both call blocks came
 --     keeps                           a refusal leaves the station as it was
@@ -41,7 +41,7 @@ use Rattle.mode_a.specs.Heard.{mayHold, isBlock, isWords, callOf, heardOf}
 use Rattle.mode_a.specs.Over.{listenedAll}
 use Rattle.mode_a.specs.Rows.{rowOf, requests, bothHeard}
 use Rattle.mode_a.specs.Step.{standsAt, movedTo, begun, called, waitsOn, listens, reached, calledTo, sends, holds, takes, repeats, heardAt, isOver, acceptsBy, trafficIn, done, soundPlace, sound, offered, stepping, stationAfter}
-use Rattle.runs.specs.Runs.{Event, said, next, InOrder}
+use Rattle.runs.specs.Runs.{Event, Run, start, _▷_, said, next, after, InOrder}
 
 -- what may stand in an offered text, and be held, is a block
 text-test : (w : Words) → (ltb (firstNot mayHold (listOf w)) 3 ≡ not (isBlock w)) × (leb 3 (firstNot mayHold (listOf w)) ≡ isBlock w)
@@ -201,6 +201,12 @@ keeps P s e step p = go (said s e) refl
     go : (a : Answer Reply) → said s e ≡ a → P (stationAfter s a)
     go (answered r) i = step r i p
     go (refused n v) i = p
+
+-- the own identity is that of the start, in every run
+pub own-lasts : (s : Station) (run : Run) → after s run .own ≡ s .own
+own-lasts s start = refl
+own-lasts s (run ▷ e) =
+    keeps (λ (t : Station). t .own ≡ s .own) (after s run) e (λ r p i. ap (λ (r : Reply). r .station .own) (answers (after s run) (e .burst) (e .offer) r p .is-done) ∙ own-kept (after s run) (e .burst) (e .offer) _ ∙ i) (own-lasts s run)
 
 -- neither a request nor a block is ααα
 pub requests-no-ααα : (r : Role) → isWords (requests r) ααα ≡ false
