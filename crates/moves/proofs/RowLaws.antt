@@ -3,9 +3,11 @@ use mathlib.Core.Path.{_≡_, refl, ap, sym, _∙_}
 use Rattle.mode_a.specs.declared.Role.{Role}
 use Rattle.mode_a.specs.declared.Role.the-variants.{Master, Slave}
 use Rattle.mode_a.specs.declared.Words.{Words}
+use Rattle.mode_a.specs.declared.Mark.{Mark}
+use Rattle.mode_a.specs.declared.Own.{Own}
 use Rattle.mode_a.specs.declared.Place.{Place}
-use Rattle.mode_a.specs.declared.Place.the-variants.{Sending, Turning, Opening, Ending, Receiving, Asking, StandBy, Lost}
-use Rattle.mode_a.specs.Heard.{heardOf}
+use Rattle.mode_a.specs.declared.Place.the-variants.{Sending, Turning, Opening, Ending, Receiving, Asking, StandBy, Lost, Calling}
+use Rattle.mode_a.specs.Heard.{callOf, heardOf}
 use Rattle.mode_a.specs.Rows.{rowOf}
 use Rattle.table.specs.declared.Kind.{Kind}
 use Rattle.table.specs.Kinds.{kindOf, heardK}
@@ -28,42 +30,30 @@ by-kind P a b c d e f g h i j k l Kind.Turn = j
 by-kind P a b c d e f g h i j k l Kind.Alphas = k
 by-kind P a b c d e f g h i j k l Kind.Else = l
 
--- the rows, over the kinds
-over-kinds : (r : Role) (p : Place) (k : Kind) → doingOf (actionOf p k) r p ≡ rowOf r p (heardK k)
+-- the rows, over the kinds; of these only Turning asks for the role
+over-kinds : (r : Role) (p : Place) (m : Mark) (k : Kind) → doingOf (actionOf p k) r p m ≡ rowOf r p (heardK m k)
 unfolding doingOf actionOf
-over-kinds Master (Sending h) k =
-    by-kind (λ k. doingOf (actionOf (Sending h) k) Master (Sending h) ≡ rowOf Master (Sending h) (heardK k)) refl refl refl refl refl refl refl refl refl refl refl refl k
-over-kinds Master (Turning n) k =
-    by-kind (λ k. doingOf (actionOf (Turning n) k) Master (Turning n) ≡ rowOf Master (Turning n) (heardK k)) refl refl refl refl refl refl refl refl refl refl refl refl k
-over-kinds Master Opening k =
-    by-kind (λ k. doingOf (actionOf Opening k) Master Opening ≡ rowOf Master Opening (heardK k)) refl refl refl refl refl refl refl refl refl refl refl refl k
-over-kinds Master (Ending e) k =
-    by-kind (λ k. doingOf (actionOf (Ending e) k) Master (Ending e) ≡ rowOf Master (Ending e) (heardK k)) refl refl refl refl refl refl refl refl refl refl refl refl k
-over-kinds Master (Receiving n) k =
-    by-kind (λ k. doingOf (actionOf (Receiving n) k) Master (Receiving n) ≡ rowOf Master (Receiving n) (heardK k)) refl refl refl refl refl refl refl refl refl refl refl refl k
-over-kinds Master Asking k =
-    by-kind (λ k. doingOf (actionOf Asking k) Master Asking ≡ rowOf Master Asking (heardK k)) refl refl refl refl refl refl refl refl refl refl refl refl k
-over-kinds Master StandBy k =
-    by-kind (λ k. doingOf (actionOf StandBy k) Master StandBy ≡ rowOf Master StandBy (heardK k)) refl refl refl refl refl refl refl refl refl refl refl refl k
-over-kinds Master Lost k =
-    by-kind (λ k. doingOf (actionOf Lost k) Master Lost ≡ rowOf Master Lost (heardK k)) refl refl refl refl refl refl refl refl refl refl refl refl k
-over-kinds Slave (Sending h) k =
-    by-kind (λ k. doingOf (actionOf (Sending h) k) Slave (Sending h) ≡ rowOf Slave (Sending h) (heardK k)) refl refl refl refl refl refl refl refl refl refl refl refl k
-over-kinds Slave (Turning n) k =
-    by-kind (λ k. doingOf (actionOf (Turning n) k) Slave (Turning n) ≡ rowOf Slave (Turning n) (heardK k)) refl refl refl refl refl refl refl refl refl refl refl refl k
-over-kinds Slave Opening k =
-    by-kind (λ k. doingOf (actionOf Opening k) Slave Opening ≡ rowOf Slave Opening (heardK k)) refl refl refl refl refl refl refl refl refl refl refl refl k
-over-kinds Slave (Ending e) k =
-    by-kind (λ k. doingOf (actionOf (Ending e) k) Slave (Ending e) ≡ rowOf Slave (Ending e) (heardK k)) refl refl refl refl refl refl refl refl refl refl refl refl k
-over-kinds Slave (Receiving n) k =
-    by-kind (λ k. doingOf (actionOf (Receiving n) k) Slave (Receiving n) ≡ rowOf Slave (Receiving n) (heardK k)) refl refl refl refl refl refl refl refl refl refl refl refl k
-over-kinds Slave Asking k =
-    by-kind (λ k. doingOf (actionOf Asking k) Slave Asking ≡ rowOf Slave Asking (heardK k)) refl refl refl refl refl refl refl refl refl refl refl refl k
-over-kinds Slave StandBy k =
-    by-kind (λ k. doingOf (actionOf StandBy k) Slave StandBy ≡ rowOf Slave StandBy (heardK k)) refl refl refl refl refl refl refl refl refl refl refl refl k
-over-kinds Slave Lost k =
-    by-kind (λ k. doingOf (actionOf Lost k) Slave Lost ≡ rowOf Slave Lost (heardK k)) refl refl refl refl refl refl refl refl refl refl refl refl k
+over-kinds r (Sending h) m k =
+    by-kind (λ k. doingOf (actionOf (Sending h) k) r (Sending h) m ≡ rowOf r (Sending h) (heardK m k)) refl refl refl refl refl refl refl refl refl refl refl refl k
+over-kinds Master (Turning n) m k =
+    by-kind (λ k. doingOf (actionOf (Turning n) k) Master (Turning n) m ≡ rowOf Master (Turning n) (heardK m k)) refl refl refl refl refl refl refl refl refl refl refl refl k
+over-kinds Slave (Turning n) m k =
+    by-kind (λ k. doingOf (actionOf (Turning n) k) Slave (Turning n) m ≡ rowOf Slave (Turning n) (heardK m k)) refl refl refl refl refl refl refl refl refl refl refl refl k
+over-kinds r Opening m k =
+    by-kind (λ k. doingOf (actionOf Opening k) r Opening m ≡ rowOf r Opening (heardK m k)) refl refl refl refl refl refl refl refl refl refl refl refl k
+over-kinds r (Ending e) m k =
+    by-kind (λ k. doingOf (actionOf (Ending e) k) r (Ending e) m ≡ rowOf r (Ending e) (heardK m k)) refl refl refl refl refl refl refl refl refl refl refl refl k
+over-kinds r (Receiving n) m k =
+    by-kind (λ k. doingOf (actionOf (Receiving n) k) r (Receiving n) m ≡ rowOf r (Receiving n) (heardK m k)) refl refl refl refl refl refl refl refl refl refl refl refl k
+over-kinds r Asking m k =
+    by-kind (λ k. doingOf (actionOf Asking k) r Asking m ≡ rowOf r Asking (heardK m k)) refl refl refl refl refl refl refl refl refl refl refl refl k
+over-kinds r (StandBy w) m k =
+    by-kind (λ k. doingOf (actionOf (StandBy w) k) r (StandBy w) m ≡ rowOf r (StandBy w) (heardK m k)) refl refl refl refl refl refl refl refl refl refl refl refl k
+over-kinds r Lost m k =
+    by-kind (λ k. doingOf (actionOf Lost k) r Lost m ≡ rowOf r Lost (heardK m k)) refl refl refl refl refl refl refl refl refl refl refl refl k
+over-kinds r (Calling c) m k =
+    by-kind (λ k. doingOf (actionOf (Calling c) k) r (Calling c) m ≡ rowOf r (Calling c) (heardK m k)) refl refl refl refl refl refl refl refl refl refl refl refl k
 
 -- and so over the bursts: what the code does is what the row says
-pub rows-agree : (r : Role) (p : Place) (b : Words) → doingOf (actionOf p (kindOf b)) r p ≡ rowOf r p (heardOf b)
-rows-agree r p b = over-kinds r p (kindOf b) ∙ ap (rowOf r p) (sym (heard-kind b))
+pub rows-agree : (r : Role) (p : Place) (own : Own) (b : Words) → doingOf (actionOf p (kindOf b)) r p (callOf (own .four) b) ≡ rowOf r p (heardOf own b)
+rows-agree r p own b = over-kinds r p (callOf (own .four) b) (kindOf b) ∙ ap (rowOf r p) (sym (heard-kind own b))

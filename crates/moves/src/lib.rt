@@ -1,11 +1,14 @@
-// What each action of the table does at a place: the code's side of 01's rows (01, The station). The law `rows-agree` says that
-// table and actions together are the rows of `mode_a`.
+// What each action of the table does at a place: the code's side of 01's rows (01, The station; 02, T-02). The law `rows-agree` says
+// that table and actions together are the rows of `mode_a`. What Stand-by and Calling do is crate `calling`.
 ghost use mathlib.Core.Path.{_≡_};
+ghost use Rattle.mode_a.specs.Heard.{callOf};
 ghost use Rattle.mode_a.specs.Rows.{requests};
 ghost use Rattle.moves.specs.Moves.{numberIn, blockIn, totalIn, asked, endsAgain, ended, doingOf};
 use mode_a::Doing;
 use mode_a::Ended;
+use mode_a::Mark;
 use mode_a::Number;
+use mode_a::Own;
 use mode_a::Place;
 use mode_a::Role;
 use mode_a::Station;
@@ -23,8 +26,9 @@ fn number_in(place: Place) -> Number
         Place::Ending(ended) => ended.number,
         Place::Receiving(number) => number,
         Place::Asking => Number::One,
-        Place::StandBy => Number::One,
+        Place::StandBy(_) => Number::One,
         Place::Lost => Number::One,
+        Place::Calling(_) => Number::One,
     }
 }
 
@@ -39,8 +43,9 @@ fn block_in(place: Place) -> Words
         Place::Ending(_) => mode_a::SILENCE,
         Place::Receiving(_) => mode_a::SILENCE,
         Place::Asking => mode_a::SILENCE,
-        Place::StandBy => mode_a::SILENCE,
+        Place::StandBy(_) => mode_a::SILENCE,
         Place::Lost => mode_a::SILENCE,
+        Place::Calling(_) => mode_a::SILENCE,
     }
 }
 
@@ -55,8 +60,9 @@ fn total_in(place: Place) -> u8
         Place::Ending(ended) => ended.total,
         Place::Receiving(_) => 0,
         Place::Asking => 0,
-        Place::StandBy => 0,
+        Place::StandBy(_) => 0,
         Place::Lost => 0,
+        Place::Calling(_) => 0,
     }
 }
 
@@ -85,7 +91,7 @@ fn ends_again(number: Number, total: u8) -> Doing
     ensures { λ r. ⌜ r ≡ endsAgain number total ⌝ }
 {
     if Station::ENDINGS <= total {
-        return Doing::Goes(Place::StandBy, mode_a::SILENCE);
+        return Doing::Rests(0, mode_a::SILENCE);
     }
     Doing::Goes(
         Place::Ending(Ended {
@@ -103,11 +109,12 @@ fn ended(heard: Number, number: Number, total: u8) -> Doing
     if heard.same(number) {
         return ends_again(number, total);
     }
-    Doing::Goes(Place::StandBy, mode_a::SILENCE)
+    Doing::Rests(0, mode_a::SILENCE)
 }
 
-pub fn doing(action: Action, role: Role, place: Place) -> Doing
-    ensures { λ r. ⌜ r ≡ doingOf action role place ⌝ }
+// What an action does at a place. The own identity and the burst are looked at only where the action is Listen.
+pub fn doing(action: Action, role: Role, place: Place, own: Own, burst: Words) -> Doing
+    ensures { λ r. ⌜ r ≡ doingOf action role place (callOf (own .four) burst) ⌝ }
 {
     let number = number_in(place);
     match action {
@@ -123,16 +130,21 @@ pub fn doing(action: Action, role: Role, place: Place) -> Doing
         },
         Action::Take1 => Doing::Takes(Number::One),
         Action::Take2 => Doing::Takes(Number::Two),
-        Action::StandBy => Doing::Goes(Place::StandBy, mode_a::SILENCE),
+        Action::StandBy => Doing::Rests(0, mode_a::SILENCE),
         Action::Request => Doing::Repeats(requests(role)),
         Action::Ended1 => ended(Number::One, number, total_in(place)),
         Action::Ended2 => ended(Number::Two, number, total_in(place)),
         Action::EndAgain => ends_again(number, total_in(place)),
         Action::Accept => Doing::Accepts(number),
         Action::AskAgain => Doing::Repeats(number.asks()),
-        Action::Finish => Doing::Goes(Place::StandBy, number.other().asks()),
+        Action::Finish => Doing::Rests(0, number.other().asks()),
         Action::Cs3Again => Doing::Repeats(Words(signals::CS3, 0, 0)),
         Action::Open => Doing::Opens,
+        Action::Listen => calling::listening(place, own, burst),
         Action::Silent => Doing::Goes(place, mode_a::SILENCE),
+        Action::Called1 => calling::called(place, Number::One),
+        Action::Called2 => calling::called(place, Number::Two),
+        Action::CallStops => Doing::Rests(Station::CALLS, mode_a::SILENCE),
+        Action::CallOn => calling::calls_on(place, Mark::None),
     }
 }

@@ -22,20 +22,27 @@ use Rattle.characters.specs.Holder.{Numbers, numbered}
 use Rattle.judging.specs.Size.{sizesOf}
 use Rattle.mode_a.specs.declared.Role.{Role}
 use Rattle.mode_a.specs.declared.Number.{Number}
+use Rattle.mode_a.specs.declared.Mark.{Mark}
 use Rattle.mode_a.specs.declared.Words.{Words}
+use Rattle.mode_a.specs.declared.Identity.{Identity}
+use Rattle.mode_a.specs.declared.Own.{Own}
+use Rattle.mode_a.specs.declared.Waiting.{Waiting}
 use Rattle.mode_a.specs.declared.Place.{Place}
 use Rattle.mode_a.specs.declared.Offer.{Offer}
 use Rattle.mode_a.specs.declared.Station.{Station}
+use Rattle.mode_a.specs.declared.Listening.{Listening}
 use Rattle.mode_a.specs.declared.Reply.{Reply}
 use Rattle.mode_a.specs.declared.Doing.{Doing}
-use Rattle.mode_a.specs.Station.{other, same, asksFor}
-use Rattle.mode_a.specs.Heard.{mayHold}
-use Rattle.mode_a.specs.Rows.{requests}
-use Rattle.mode_a.specs.Step.{done}
+use Rattle.mode_a.specs.Calls.{isIdentity, signalsOf, callBlock1, callBlock2}
+use Rattle.mode_a.specs.Station.{words, other, same, asksFor, markOf}
+use Rattle.mode_a.specs.Heard.{Cs, mayHold, isWords, callOf}
+use Rattle.mode_a.specs.Rows.{requests, callsOn, calling}
+use Rattle.mode_a.specs.Step.{movedTo, cancelledTo, sends, takes, heardAt, accepts, repeats, rested, begun, listens, reached, done}
 use Rattle.table.specs.declared.Kind.{Kind}
 use Rattle.table.specs.declared.Action.{Action}
 use Rattle.table.specs.Kinds.{kindOf, columnOf}
 use Rattle.table.specs.Actions.{actionOf}
+use Rattle.calling.specs.Carried.{waitingIn, calledIn, listening}
 use Rattle.moves.specs.Moves.{doingOf}
 
 -- `signals::rows`: that there are 35 rows is the answer's type, `[Row; 35]`, and `Rows` says what each is
@@ -62,9 +69,12 @@ first-bad-unique ws r r′ p q = unique p q
 pub needed-unique : (ws : List ℕ) (r r′ : ℕ) → r ≡ sizesOf ws → r′ ≡ sizesOf ws → r ≡ r′
 needed-unique ws r r′ p q = unique p q
 
--- `mode_a::may_hold`, and the functions of `Number`
+-- `mode_a::may_hold`, `mode_a::may_identify`, and the functions of `Number` and `Identity`
 pub may-hold-unique : (w : ℕ) (r r′ : Bool) → r ≡ mayHold w → r′ ≡ mayHold w → r ≡ r′
 may-hold-unique w r r′ p q = unique p q
+
+pub may-identify-unique : (w : ℕ) (r r′ : Bool) → r ≡ isIdentity w → r′ ≡ isIdentity w → r ≡ r′
+may-identify-unique w r r′ p q = unique p q
 
 pub other-unique : (n r r′ : Number) → r ≡ other n → r′ ≡ other n → r ≡ r′
 other-unique n r r′ p q = unique p q
@@ -75,7 +85,22 @@ same-unique n m r r′ p q = unique p q
 pub asks-unique : (n : Number) (r r′ : Words) → r ≡ asksFor n → r′ ≡ asksFor n → r ≡ r′
 asks-unique n r r′ p q = unique p q
 
--- `table::kind_of`, `table::column_of`, `table::action_at`
+pub mark-unique : (n : Number) (r r′ : Mark) → r ≡ markOf n → r′ ≡ markOf n → r ≡ r′
+mark-unique n r r′ p q = unique p q
+
+pub block-1-unique : (i : Identity) (r r′ : Words) → r ≡ callBlock1 i → r′ ≡ callBlock1 i → r ≡ r′
+block-1-unique i r r′ p q = unique p q
+
+pub block-2-unique : (i : Identity) (r r′ : Words) → r ≡ callBlock2 i → r′ ≡ callBlock2 i → r ≡ r′
+block-2-unique i r r′ p q = unique p q
+
+pub first-outside-unique : (i : Identity) (r r′ : ℕ) → r ≡ firstNot isIdentity (signalsOf i) → r′ ≡ firstNot isIdentity (signalsOf i) → r ≡ r′
+first-outside-unique i r r′ p q = unique p q
+
+-- `table::is_words`, `table::kind_of`, `table::column_of`, `table::action_at`
+pub is-words-unique : (b : Words) (x y z : ℕ) (r r′ : Bool) → r ≡ isWords b (words x y z) → r′ ≡ isWords b (words x y z) → r ≡ r′
+is-words-unique b x y z r r′ p q = unique p q
+
 pub kind-of-unique : (b : Words) (r r′ : Kind) → r ≡ kindOf b → r′ ≡ kindOf b → r ≡ r′
 kind-of-unique b r r′ p q = unique p q
 
@@ -85,12 +110,57 @@ column-of-unique kind r r′ p q = unique p q
 pub action-at-unique : (place : Place) (kind : Kind) (r r′ : Action) → r ≡ actionOf place kind → r′ ≡ actionOf place kind → r ≡ r′
 action-at-unique place kind r r′ p q = unique p q
 
+-- `calling::listening`, `calling::calls_on`, `calling::called`
+pub listening-unique : (place : Place) (own : Own) (burst : Words) (r r′ : Doing) → r ≡ listening (waitingIn place) (callOf (own .four) burst) → r′ ≡ listening (waitingIn place) (callOf (own .four) burst) → r ≡ r′
+listening-unique place own burst r r′ p q = unique p q
+
+pub calls-on-unique : (place : Place) (heard : Mark) (r r′ : Doing) → r ≡ callsOn (calledIn place) heard → r′ ≡ callsOn (calledIn place) heard → r ≡ r′
+calls-on-unique place heard r r′ p q = unique p q
+
+pub called-unique : (place : Place) (number : Number) (r r′ : Doing) → r ≡ calling (calledIn place) (Cs number) → r′ ≡ calling (calledIn place) (Cs number) → r ≡ r′
+called-unique place number r r′ p q = unique p q
+
 -- `moves::doing`, `moves::requests`
-pub doing-unique : (action : Action) (role : Role) (place : Place) (r r′ : Doing) → r ≡ doingOf action role place → r′ ≡ doingOf action role place → r ≡ r′
-doing-unique action role place r r′ p q = unique p q
+pub doing-unique : (action : Action) (role : Role) (place : Place) (own : Own) (burst : Words) (r r′ : Doing) → r ≡ doingOf action role place (callOf (own .four) burst) → r′ ≡ doingOf action role place (callOf (own .four) burst) → r ≡ r′
+doing-unique action role place own burst r r′ p q = unique p q
 
 pub requests-unique : (role : Role) (r r′ : Words) → r ≡ requests role → r′ ≡ requests role → r ≡ r′
 requests-unique role r r′ p q = unique p q
+
+-- `stands`: the station after a step, an answer that only sends, a repetition
+pub moved-to-unique : (s : Station) (place : Place) (r r′ : Station) → r ≡ movedTo s place → r′ ≡ movedTo s place → r ≡ r′
+moved-to-unique s place r r′ p q = unique p q
+
+pub cancelled-to-unique : (s : Station) (place : Place) (r r′ : Station) → r ≡ cancelledTo s place → r′ ≡ cancelledTo s place → r ≡ r′
+cancelled-to-unique s place r r′ p q = unique p q
+
+pub heard-at-unique : (s : Station) (place : Place) (l : Listening) (r r′ : Station) → r ≡ heardAt s place l → r′ ≡ heardAt s place l → r ≡ r′
+heard-at-unique s place l r r′ p q = unique p q
+
+pub rested-unique : (s : Station) (wait : ℕ) (r r′ : Station) → r ≡ rested s wait → r′ ≡ rested s wait → r ≡ r′
+rested-unique s wait r r′ p q = unique p q
+
+pub begun-unique : (s : Station) (role : Role) (place : Place) (r r′ : Station) → r ≡ begun s role place → r′ ≡ begun s role place → r ≡ r′
+begun-unique s role place r r′ p q = unique p q
+
+pub reached-unique : (s : Station) (four : Identity) (r r′ : Station) → r ≡ reached s four → r′ ≡ reached s four → r ≡ r′
+reached-unique s four r r′ p q = unique p q
+
+pub sends-unique : (s : Station) (w : Words) (r r′ : Reply) → r ≡ sends s w → r′ ≡ sends s w → r ≡ r′
+sends-unique s w r r′ p q = unique p q
+
+pub repeats-unique : (s : Station) (w : Words) (r r′ : Reply) → r ≡ repeats s w → r′ ≡ repeats s w → r ≡ r′
+repeats-unique s w r r′ p q = unique p q
+
+-- `accepting::accepts`; `taking::takes`, `taking::listens`
+pub accepts-unique : (s : Station) (n : Number) (b : Words) (o : Offer) (r r′ : Reply) → r ≡ accepts s n b o → r′ ≡ accepts s n b o → r ≡ r′
+accepts-unique s n b o r r′ p q = unique p q
+
+pub takes-unique : (s : Station) (n : Number) (o : Offer) (r r′ : Reply) → r ≡ takes s n o → r′ ≡ takes s n o → r ≡ r′
+takes-unique s n o r r′ p q = unique p q
+
+pub listens-unique : (s : Station) (w : Waiting) (o : Offer) (r r′ : Reply) → r ≡ listens s w o → r′ ≡ listens s w o → r ≡ r′
+listens-unique s w o r r′ p q = unique p q
 
 -- `replies::done`
 pub done-unique : (s : Station) (b : Words) (o : Offer) (d : Doing) (r r′ : Reply) → r ≡ done s b o d → r′ ≡ done s b o d → r ≡ r′

@@ -10,13 +10,15 @@ ghost use Rattle.signals.specs.Units.{intactOf};
 ghost use Rattle.signals.specs.Meaning.{meaningOf};
 ghost use Rattle.text.specs.Encoding.{Encodes};
 ghost use Rattle.text.specs.Printing.{Prints};
-ghost use Rattle.mode_a.specs.Station.{freshMaster, freshSlave, firstBurst};
+ghost use Rattle.mode_a.specs.Station.{freshMaster, freshSlave, firstBurst, StandsBy};
 ghost use Rattle.mode_a.specs.Step.{Steps};
 ghost use Rattle.mode_b.specs.Sender.{Slots};
 ghost use Rattle.mode_b.specs.Receiver.{freshReceiver, Receives};
+use mode_a::Identity;
 use mode_a::Offer;
 use mode_a::Station;
 use mode_a::Stepped;
+use mode_a::Stood;
 use mode_a::Words;
 use mode_b::Received;
 use mode_b::Receiver;
@@ -51,7 +53,7 @@ pub fn print(words: &[u8], case: Case, room: &mut [u8]) -> Printed
     printing::print(words, case, room)
 }
 
-// 01, The station.
+// 01, The station; 02, T-02: `step` hears and places calls.
 pub fn step(s: Station, burst: Words, offer: Offer) -> Stepped
     ensures { λ r. ⌜ Steps s burst offer r ⌝ }
 {
@@ -68,6 +70,12 @@ pub fn fresh_slave() -> Station
     ensures { λ r. ⌜ r ≡ freshSlave ⌝ }
 {
     Station::fresh_slave()
+}
+
+pub fn standing_by(identity: Identity) -> Stood
+    ensures { λ r. ⌜ StandsBy identity r ⌝ }
+{
+    Station::standing_by(identity)
 }
 
 pub fn first_burst() -> Words

@@ -1,10 +1,10 @@
-// One station of mode A: the step (01, The station; 001, 3.3 to 3.7).
+// One station of mode A: the step (01, The station; 02, T-02; 001, 3.3 to 3.7).
 ghost use mathlib.Core.Path.{_≡_};
 ghost use Rattle.signals.specs.Numbers.{firstNot};
 ghost use Rattle.mode_a.specs.Station.{listOf};
 ghost use Rattle.mode_a.specs.Heard.{mayHold};
 ghost use Rattle.mode_a.specs.Step.{soundPlace, sound, Steps};
-ghost use Rattle.station.specs.Parts.{badOffer};
+ghost use Rattle.station.specs.Parts.{badOffer, badCall};
 use mode_a::Offer;
 use mode_a::Place;
 use mode_a::Station;
@@ -46,8 +46,9 @@ fn sound_place(place: Place) -> bool
         }
         Place::Receiving(_) => true,
         Place::Asking => true,
-        Place::StandBy => true,
+        Place::StandBy(_) => true,
         Place::Lost => true,
+        Place::Calling(_) => true,
     }
 }
 
@@ -71,15 +72,33 @@ fn bad_offer(offer: Offer) -> usize
         Offer::Over => 3,
         Offer::End => 3,
         Offer::Nothing => 3,
+        Offer::Call(_) => 3,
     }
 }
 
-// One step of a station (01, The station; 001, 3.3 to 3.7): it hears `burst`, may take `offer`, and answers the new station, the
-// burst to send, up to three printed signals, and whether the offer was taken. Refuses 4, then 3, with the same station and
+// The index of the first signal of the identity offered that is outside table 3a; 4 where none is, or no call is offered.
+fn bad_call(offer: Offer) -> usize
+    ensures { λ r. ⌜ r ≡ badCall offer ⌝ }
+{
+    match offer {
+        Offer::Text(_) => 4,
+        Offer::Over => 4,
+        Offer::End => 4,
+        Offer::Nothing => 4,
+        Offer::Call(to) => to.first_outside(),
+    }
+}
+
+// One step of a station (01, The station; 02, T-02; 001, 3.3 to 3.7): it hears `burst`, may take `offer`, and answers the new station,
+// the burst to send, up to three printed signals, and whether the offer was taken. Refuses 8, then 4, then 3, with the same station and
 // nothing sent (01, Numbers returned).
 pub fn step(s: Station, burst: Words, offer: Offer) -> Stepped
     ensures { λ r. ⌜ Steps s burst offer r ⌝ }
 {
+    let outside = bad_call(offer);
+    if outside < 4 {
+        return Stepped::BadCall(outside, s);
+    }
     if !sound(s) {
         return Stepped::BadStation(s);
     }
@@ -89,6 +108,8 @@ pub fn step(s: Station, burst: Words, offer: Offer) -> Stepped
     }
     let role = s.role;
     let place = s.place;
+    let own = s.own;
     let action = table::action_at(place, table::kind_of(burst));
-    Stepped::Done(replies::done(s, burst, offer, moves::doing(action, role, place)))
+    let doing = moves::doing(action, role, place, own, burst);
+    Stepped::Done(replies::done(s, burst, offer, doing))
 }

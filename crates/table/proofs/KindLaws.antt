@@ -1,5 +1,5 @@
--- What the rows ask of a burst is what they ask of its kind: the twelve kinds are a partition fine enough for every row.
--- Assumes nothing.
+-- What the rows ask of a burst is what they ask of its kind and of which own call block it is: the twelve kinds are a partition fine
+-- enough for every row but Stand-by's, which asks for that block too (02, T-02). Assumes nothing.
 use mathlib.Core.Path.{_≡_, refl, ap, sym, subst, _∙_}
 use mathlib.Core.Bool.{Bool, true, false, _&&_}
 use Prim.Native.Nat.{ℕ}
@@ -9,8 +9,10 @@ use borrow.Author.Tests.{eqb-true}
 use Rattle.signals.specs.Meaning.{meaningOf, trafficOf, rq}
 use Rattle.mode_a.specs.declared.Number.the-variants.{One, Two}
 use Rattle.mode_a.specs.declared.Words.{Words}
+use Rattle.mode_a.specs.declared.Mark.{Mark}
+use Rattle.mode_a.specs.declared.Own.{Own}
 use Rattle.mode_a.specs.Station.{βαβ, ααα, RQ×3}
-use Rattle.mode_a.specs.Heard.{First, Cs, firstOf, mayHold, isBlock, isWords, heardOf}
+use Rattle.mode_a.specs.Heard.{First, Cs, firstOf, mayHold, isBlock, isWords, callOf, heardOf}
 use Rattle.mode_a.proofs.HeardLaws.{Says, first-says}
 use Rattle.table.specs.Kinds.{kindOf, heardK, blockKind, restKind}
 
@@ -50,33 +52,33 @@ not-rq b e f =
     let m = and-left (mayHold (b .0)) (mayHold (b .1) && mayHold (b .2)) e in
     never (sym m ∙ ap mayHold r)
 
-by-block : (f : First) → (f ≡ First.Rq → ⊥) → record { first = f; block = true; RQs = false; alphas = false; turned = false } ≡ heardK (blockKind f)
-by-block (Cs One) n = refl
-by-block (Cs Two) n = refl
-by-block First.Cs3 n = refl
-by-block First.Rq n = absurd (n refl)
-by-block First.Else n = refl
+by-block : (m : Mark) (f : First) → (f ≡ First.Rq → ⊥) → record { first = f; block = true; RQs = false; alphas = false; turned = false; call = m } ≡ heardK m (blockKind f)
+by-block m (Cs One) n = refl
+by-block m (Cs Two) n = refl
+by-block m First.Cs3 n = refl
+by-block m First.Rq n = absurd (n refl)
+by-block m First.Else n = refl
 
-by-rest : (f : First) → record { first = f; block = false; RQs = false; alphas = false; turned = false } ≡ heardK (restKind f)
-by-rest (Cs One) = refl
-by-rest (Cs Two) = refl
-by-rest First.Cs3 = refl
-by-rest First.Rq = refl
-by-rest First.Else = refl
+by-rest : (m : Mark) (f : First) → record { first = f; block = false; RQs = false; alphas = false; turned = false; call = m } ≡ heardK m (restKind f)
+by-rest m (Cs One) = refl
+by-rest m (Cs Two) = refl
+by-rest m First.Cs3 = refl
+by-rest m First.Rq = refl
+by-rest m First.Else = refl
 
-module _ (b : Words) where
+module _ (own : Own) (b : Words) where
   -- a burst that is one of the three named
-  named : (w : Words) → isWords b w ≡ true → heardOf w ≡ heardK (kindOf w) → heardOf b ≡ heardK (kindOf b)
-  named w e h = subst (λ (w : Words). heardOf w ≡ heardK (kindOf w)) (sym (words-are b w e)) h
+  named : (w : Words) → isWords b w ≡ true → heardOf own w ≡ heardK (callOf (own .four) w) (kindOf w) → heardOf own b ≡ heardK (callOf (own .four) b) (kindOf b)
+  named w e h = subst (λ (w : Words). heardOf own w ≡ heardK (callOf (own .four) w) (kindOf w)) (sym (words-are b w e)) h
 
-  cases : (p q r s : Bool) → isBlock b ≡ p → isWords b RQ×3 ≡ q → isWords b ααα ≡ r → isWords b βαβ ≡ s → heardOf b ≡ heardK (kindOf b)
+  cases : (p q r s : Bool) → isBlock b ≡ p → isWords b RQ×3 ≡ q → isWords b ααα ≡ r → isWords b βαβ ≡ s → heardOf own b ≡ heardK (callOf (own .four) b) (kindOf b)
   unfolding heardOf kindOf isBlock mayHold trafficOf meaningOf isWords firstOf
   cases true q r s ep eq er es =
-      rw (ep, apart b RQ×3 ep refl, apart b ααα ep refl, apart b βαβ ep refl) (by-block (firstOf (b .0)) (not-rq b ep))
+      rw (ep, apart b RQ×3 ep refl, apart b ααα ep refl, apart b βαβ ep refl) (by-block (callOf (own .four) b) (firstOf (b .0)) (not-rq b ep))
   cases false true r s ep eq er es = named RQ×3 eq refl
   cases false false true s ep eq er es = named ααα er refl
   cases false false false true ep eq er es = named βαβ es refl
-  cases false false false false ep eq er es = rw (ep, eq, er, es) (by-rest (firstOf (b .0)))
+  cases false false false false ep eq er es = rw (ep, eq, er, es) (by-rest (callOf (own .four) b) (firstOf (b .0)))
 
-  pub heard-kind : heardOf b ≡ heardK (kindOf b)
+  pub heard-kind : heardOf own b ≡ heardK (callOf (own .four) b) (kindOf b)
   heard-kind = cases (isBlock b) (isWords b RQ×3) (isWords b ααα) (isWords b βαβ) refl refl refl refl

@@ -4,13 +4,14 @@ use Prim.Native.Nat.{ℕ}
 use Rattle.laws.specs.Choice.{if_then_else_}
 use Rattle.mode_a.specs.declared.Number.the-variants.{One, Two}
 use Rattle.mode_a.specs.declared.Place.{Place}
-use Rattle.mode_a.specs.declared.Place.the-variants.{Sending, Turning, Opening, Ending, Receiving, Asking, StandBy, Lost}
+use Rattle.mode_a.specs.declared.Place.the-variants.{Sending, Turning, Opening, Ending, Receiving, Asking, StandBy, Lost, Calling}
+use Rattle.mode_a.specs.declared.Mark.{Mark}
 use Rattle.mode_a.specs.Heard.{First, Cs, Heard}
 use Rattle.table.specs.declared.Kind.{Kind}
 use Rattle.table.specs.declared.Action.{Action}
 use Rattle.table.specs.Kinds.{heardK}
 
--- Sending, Opening and Ending read the first word
+-- Sending, Opening, Ending and Calling read the first word
 abbrev pub sendingOn : First → Action
 sendingOn (Cs One) = Action.Asked1
 sendingOn (Cs Two) = Action.Asked2
@@ -32,6 +33,13 @@ endingOn First.Cs3 = Action.EndAgain
 endingOn First.Rq = Action.EndAgain
 endingOn First.Else = Action.EndAgain
 
+abbrev pub callingOn : First → Action
+callingOn (Cs One) = Action.Called1
+callingOn (Cs Two) = Action.Called2
+callingOn First.Cs3 = Action.CallStops
+callingOn First.Rq = Action.CallOn
+callingOn First.Else = Action.CallOn
+
 abbrev pub turningOn : First → Action
 turningOn (Cs n) = Action.Rqs
 turningOn First.Cs3 = Action.TurnAgain
@@ -41,15 +49,20 @@ turningOn First.Else = Action.Rqs
 abbrev pub receivingOn : Heard → Action
 receivingOn h = if h .block then Action.Accept else if h .alphas then Action.Finish else Action.AskAgain
 
+-- what is heard in a burst of a kind, but for the own call blocks: no cell depends on these
+abbrev heardIn : Kind → Heard
+heardIn k = heardK Mark.None k
+
 unfoldable pub actionOf : Place → Kind → Action
-actionOf (Sending h) k = sendingOn (heardK k .first)
-actionOf (Turning n) k = if heardK k .RQs then Action.Receive else turningOn (heardK k .first)
-actionOf Opening k = openingOn (heardK k .first)
-actionOf (Ending e) k = endingOn (heardK k .first)
-actionOf (Receiving n) k = receivingOn (heardK k)
-actionOf Asking k = if heardK k .turned then Action.Open else Action.Cs3Again
-actionOf StandBy k = Action.Silent
+actionOf (Sending h) k = sendingOn (heardIn k .first)
+actionOf (Turning n) k = if heardIn k .RQs then Action.Receive else turningOn (heardIn k .first)
+actionOf Opening k = openingOn (heardIn k .first)
+actionOf (Ending e) k = endingOn (heardIn k .first)
+actionOf (Receiving n) k = receivingOn (heardIn k)
+actionOf Asking k = if heardIn k .turned then Action.Open else Action.Cs3Again
+actionOf (StandBy w) k = Action.Listen
 actionOf Lost k = Action.Silent
+actionOf (Calling c) k = callingOn (heardIn k .first)
 
 -- the row
 abbrev pub rowNo : Place → ℕ
@@ -59,5 +72,6 @@ rowNo Opening = 2
 rowNo (Ending e) = 3
 rowNo (Receiving n) = 4
 rowNo Asking = 5
-rowNo StandBy = 6
+rowNo (StandBy w) = 6
 rowNo Lost = 7
+rowNo (Calling c) = 8

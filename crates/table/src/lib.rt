@@ -1,4 +1,4 @@
-// The table of the step (01, The station: "The step has one row for each place and one column for each kind of burst"): the
+// The table of the step (01, The station: "The step has one row for each place and one column for each kind of burst"; 02, T-02): the
 // kind of a burst, and the action that a place takes at each kind. What the actions do is crate `moves`.
 ghost use mathlib.Core.Path.{_≡_};
 ghost use Prim.Native.Nat.{_<_};
@@ -10,8 +10,8 @@ ghost use Rattle.mode_a.specs.Heard.{firstOf};
 use mode_a::Place;
 use mode_a::Words;
 
-// The twelve kinds of burst. No row needs a finer one (`heard-kind`), and each pair is told apart by some place (`kinds-apart`).
-// ORDER: a kind's place here is its column.
+// The twelve kinds of burst. No row needs a finer one, but that Stand-by asks beside the kind which of the own call blocks the burst is
+// (`heard-kind`); and each pair is told apart by some place (`kinds-apart`). ORDER: a kind's place here is its column.
 pub enum Kind {
     // CS1, CS2 or CS3 first: a block (all three words traffic or β), or otherwise
     Cs1Block,
@@ -57,8 +57,15 @@ pub enum Action {
     // Asking: CS3 again; βαβ heard
     Cs3Again,
     Open,
-    // Stand-by and Lost
+    // Stand-by: by which of the own call blocks the burst is, if either
+    Listen,
+    // Lost
     Silent,
+    // Calling: the control signal of number 1, of number 2; CS3; all else
+    Called1,
+    Called2,
+    CallStops,
+    CallOn,
 }
 
 const AS1: Action = Action::Asked1;
@@ -99,9 +106,19 @@ const CS3: Action = Action::Cs3Again;
 
 const OPN: Action = Action::Open;
 
+const LIS: Action = Action::Listen;
+
 const SIL: Action = Action::Silent;
 
-const ROWS: [[Action; 12]; 8] = [
+const CL1: Action = Action::Called1;
+
+const CL2: Action = Action::Called2;
+
+const STP: Action = Action::CallStops;
+
+const CLL: Action = Action::CallOn;
+
+const ROWS: [[Action; 12]; 9] = [
     // 1b 1    2b   2    3b   3    RQs  RQ   blk  βαβ  ααα  else
     [AS1, AS1, AS2, AS2, TRN, TRN, RQS, RQS, RQS, RQS, RQS, RQS], // Sending
     [RQS, RQS, RQS, RQS, TAG, TAG, RCV, RCS, RQS, RQS, RQS, RQS], // Turning
@@ -109,11 +126,13 @@ const ROWS: [[Action; 12]; 8] = [
     [EN1, EN1, EN2, EN2, END, END, END, END, END, END, END, END], // Ending
     [ACC, ASK, ACC, ASK, ACC, ASK, ASK, ASK, ACC, ASK, FIN, ASK], // Receiving
     [CS3, CS3, CS3, CS3, CS3, CS3, CS3, CS3, CS3, OPN, CS3, CS3], // Asking
-    [SIL, SIL, SIL, SIL, SIL, SIL, SIL, SIL, SIL, SIL, SIL, SIL], // Stand-by
+    [LIS, LIS, LIS, LIS, LIS, LIS, LIS, LIS, LIS, LIS, LIS, LIS], // Stand-by
     [SIL, SIL, SIL, SIL, SIL, SIL, SIL, SIL, SIL, SIL, SIL, SIL], // Lost
+    [CL1, CL1, CL2, CL2, STP, STP, CLL, CLL, CLL, CLL, CLL, CLL], // Calling
 ];
 
-fn is_words(b: Words, x: u8, y: u8, z: u8) -> bool
+// Whether a burst is these three words.
+pub fn is_words(b: Words, x: u8, y: u8, z: u8) -> bool
     ensures { λ r. ⌜ r ≡ isWords b (words x y z) ⌝ }
 {
     if b.0 != x {
@@ -203,8 +222,9 @@ fn row_no(place: Place) -> usize
         Place::Ending(_) => 3,
         Place::Receiving(_) => 4,
         Place::Asking => 5,
-        Place::StandBy => 6,
+        Place::StandBy(_) => 6,
         Place::Lost => 7,
+        Place::Calling(_) => 8,
     }
 }
 

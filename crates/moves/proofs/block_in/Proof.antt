@@ -29,6 +29,9 @@ enum-told-6 c = search needs
 enum-told-7 : tie.Need-enum-told-7
 enum-told-7 c = search needs
 
+enum-told-8 : tie.Need-enum-told-8
+enum-told-8 c = search needs
+
 returns : tie.Need-returns
 returns c = search needs
 
@@ -53,6 +56,9 @@ returns-7 c = simp (c .enum-told6 .given .1)
 returns-8 : tie.Need-returns-8
 returns-8 c = simp (c .enum-told7 .given .1)
 
+returns-9 : tie.Need-returns-9
+returns-9 c = simp (c .enum-told8 .given .1)
+
 pub block-in-spec : {M : Type 1} → statement M
 block-in-spec =
     tie.close
@@ -65,6 +71,7 @@ block-in-spec =
     enum-told-5
     enum-told-6
     enum-told-7
+    enum-told-8
     returns
     returns-2
     returns-3
@@ -72,4 +79,5 @@ block-in-spec =
     returns-5
     returns-6
     returns-7
-    returns-8)
+    returns-8
+    returns-9)

@@ -5,6 +5,9 @@ use Rattle.moves.proofs.doing.Statement.{statement}
 use Rattle.moves.proofs.doing.Tie as tie
 use Rattle.moves.proofs.doing.Reads as reads
 use Rattle.moves.proofs.doing.Lts as lts
+use Rattle.calling.proofs.called.Reads as called-reads
+use Rattle.calling.proofs.calls_on.Reads as calls-on-reads
+use Rattle.calling.proofs.listening.Reads as listening-reads
 use Rattle.mode_a.proofs.Number.asks.Reads as asks-reads
 use Rattle.mode_a.proofs.Number.other.Reads as other-reads
 use Rattle.moves.proofs.asked.Reads as asked-reads
@@ -132,6 +135,33 @@ enum-told-21 c = search needs
 enum-told-22 : tie.Need-enum-told-22
 enum-told-22 c = search needs
 
+listening-requires : tie.Need-listening-requires
+listening-requires c κs = search needs
+
+enum-told-23 : tie.Need-enum-told-23
+enum-told-23 c = search needs
+
+enum-told-24 : tie.Need-enum-told-24
+enum-told-24 c = search needs
+
+called-requires : tie.Need-called-requires
+called-requires c κs = search needs
+
+enum-told-25 : tie.Need-enum-told-25
+enum-told-25 c = search needs
+
+called-requires-2 : tie.Need-called-requires-2
+called-requires-2 c κs = search needs
+
+enum-told-26 : tie.Need-enum-told-26
+enum-told-26 c = search needs
+
+enum-told-27 : tie.Need-enum-told-27
+enum-told-27 c = search needs
+
+calls-on-requires : tie.Need-calls-on-requires
+calls-on-requires c κs = search needs
+
 returns : tie.Need-returns
 unfolding doingOf
 returns c = simp (c .asked .ensures, c .before .block-in .ensures, c .before .before .enum-told .given .1, c .before .before .before .before .number-in .ensures)
@@ -214,7 +244,27 @@ returns-20 c = simp (c .enum-told21 .given .1)
 
 returns-21 : tie.Need-returns-21
 unfolding doingOf
-returns-21 c = simp (c .enum-told22 .given .1)
+returns-21 c = simp (c .listening .ensures, c .before .enum-told22 .given .1)
+
+returns-22 : tie.Need-returns-22
+unfolding doingOf
+returns-22 c = simp (c .enum-told23 .given .1)
+
+returns-23 : tie.Need-returns-23
+unfolding doingOf
+returns-23 c = simp (c .called .ensures, c .before .enum-told24 .given .1)
+
+returns-24 : tie.Need-returns-24
+unfolding doingOf
+returns-24 c = simp (c .called2 .ensures, c .before .enum-told25 .given .1)
+
+returns-25 : tie.Need-returns-25
+unfolding doingOf
+returns-25 c = simp (c .enum-told26 .given .1)
+
+returns-26 : tie.Need-returns-26
+unfolding doingOf
+returns-26 c = simp (c .calls-on .ensures, c .before .enum-told27 .given .1)
 
 pub doing-spec : {M : Type 1} → statement M
 doing-spec =
@@ -259,6 +309,15 @@ doing-spec =
     enum-told-20
     enum-told-21
     enum-told-22
+    listening-requires
+    enum-told-23
+    enum-told-24
+    called-requires
+    enum-told-25
+    called-requires-2
+    enum-told-26
+    enum-told-27
+    calls-on-requires
     returns
     returns-2
     returns-3
@@ -279,4 +338,9 @@ doing-spec =
     returns-18
     returns-19
     returns-20
-    returns-21)
+    returns-21
+    returns-22
+    returns-23
+    returns-24
+    returns-25
+    returns-26)

@@ -21,6 +21,9 @@ enum-told-2 c = search needs
 enum-told-3 : tie.Need-enum-told-3
 enum-told-3 c = search needs
 
+enum-told-4 : tie.Need-enum-told-4
+enum-told-4 c = search needs
+
 returns : tie.Need-returns
 returns c = simp (c .first-bad .ensures, c .before .before .offer .given .1)
 
@@ -33,6 +36,9 @@ returns-3 c = search needs
 returns-4 : tie.Need-returns-4
 returns-4 c = search needs
 
+returns-5 : tie.Need-returns-5
+returns-5 c = search needs
+
 pub bad-offer-spec : {M : Type 1} → statement M
 bad-offer-spec =
     tie.close
@@ -42,7 +48,9 @@ bad-offer-spec =
     enum-told
     enum-told-2
     enum-told-3
+    enum-told-4
     returns
     returns-2
     returns-3
-    returns-4)
+    returns-4
+    returns-5)

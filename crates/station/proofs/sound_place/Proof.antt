@@ -37,6 +37,9 @@ enum-told-5 c = search needs
 enum-told-6 : tie.Need-enum-told-6
 enum-told-6 c = search needs
 
+enum-told-7 : tie.Need-enum-told-7
+enum-told-7 c = search needs
+
 returns-2 : tie.Need-returns-2
 returns-2 c = rw (c .before .before .before .place .given .1, c .first-bad .ensures)
 
@@ -61,6 +64,9 @@ returns-8 c = search needs
 returns-9 : tie.Need-returns-9
 returns-9 c = search needs
 
+returns-10 : tie.Need-returns-10
+returns-10 c = search needs
+
 pub sound-place-spec : {M : Type 1} → statement M
 sound-place-spec =
     tie.close
@@ -75,6 +81,7 @@ sound-place-spec =
     enum-told-4
     enum-told-5
     enum-told-6
+    enum-told-7
     returns-2
     returns-3
     returns-4
@@ -82,4 +89,5 @@ sound-place-spec =
     returns-6
     returns-7
     returns-8
-    returns-9)
+    returns-9
+    returns-10)

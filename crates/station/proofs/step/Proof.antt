@@ -1,41 +1,51 @@
--- `station::step` meets its contract: the refusals in 01's order, and else what the row says, by the table and its actions.
+-- `station::step` meets its contract: the refusals in 02's and 01's order, and else what the row says, by the table and its actions.
 -- Assumes nothing.
 use mathlib.Core.Path.{ap, sym, _∙_}
 use native.Mathlib.Omega.{arith}
 use borrow.Author.Tests.{not-true, not-false}
+use Rattle.mode_a.specs.Heard.{callOf}
 use Rattle.mode_a.specs.Step.{done}
 use Rattle.table.specs.declared.Action.{Action}
 use Rattle.table.specs.Actions.{actionOf}
 use Rattle.moves.specs.Moves.{doingOf}
 use Rattle.moves.proofs.RowLaws.{rows-agree}
-use Rattle.station.proofs.PartLaws.{bad-station, bad-word, step-done}
+use Rattle.station.proofs.PartLaws.{bad-call, bad-station, bad-word, step-done}
 use borrow.Author.Needs.{needs}
 use Rattle.station.proofs.step.Statement.{statement}
 use Rattle.station.proofs.step.Tie as tie
 use Rattle.station.proofs.step.Reads as reads
 use Rattle.station.proofs.step.Lts as lts
 use Rattle.moves.proofs.doing.Reads as doing-reads
+use Rattle.replies.proofs.done.Reads as done-reads
+use Rattle.station.proofs.bad_call.Reads as bad-call-reads
 use Rattle.station.proofs.bad_offer.Reads as bad-offer-reads
 use Rattle.station.proofs.sound.Reads as sound-reads
-use Rattle.replies.proofs.done.Reads as done-reads
 use Rattle.table.proofs.action_at.Reads as action-at-reads
 use Rattle.table.proofs.kind_of.Reads as kind-of-reads
 
-sound-requires : tie.Need-sound-requires
-sound-requires c κs = search needs
+bad-call-requires : tie.Need-bad-call-requires
+bad-call-requires c κs = search needs
 
 returns : tie.Need-returns
 returns c =
     let a = c .before .before in
-    bad-station (a .args .s) (a .args .burst) (a .args .offer) (sym (c .before .sound .ensures) ∙ not-true _ (c .if1 .taken))
+    bad-call (a .args .s) (a .args .burst) (a .args .offer) (c .before .bad-call .result) (c .before .bad-call .ensures) (omega (arith, c .if1 .taken))
 
-bad-offer-requires : tie.Need-bad-offer-requires
-bad-offer-requires c κs = search needs
+sound-requires : tie.Need-sound-requires
+sound-requires c κs = search needs
 
 returns-2 : tie.Need-returns-2
 returns-2 c =
     let a = c .before .before .before .before in
-    bad-word (a .args .s) (a .args .burst) (a .args .offer) (sym (c .before .before .before .sound .ensures) ∙ not-false _ (c .before .before .if1 .left)) (c .before .bad-offer .result) (c .before .bad-offer .ensures) (omega (arith, c .if2 .taken))
+    bad-station (a .args .s) (a .args .burst) (a .args .offer) (c .before .before .before .bad-call .result) (c .before .before .before .bad-call .ensures) (c .before .before .if1 .left) (sym (c .before .sound .ensures) ∙ not-true _ (c .if2 .taken))
+
+bad-offer-requires : tie.Need-bad-offer-requires
+bad-offer-requires c κs = search needs
+
+returns-3 : tie.Need-returns-3
+returns-3 c =
+    let a = c .before .before .before .before .before .before in
+    bad-word (a .args .s) (a .args .burst) (a .args .offer) (c .before .before .before .before .before .bad-call .result) (c .before .before .before .before .before .bad-call .ensures) (c .before .before .before .before .if1 .left) (sym (c .before .before .before .sound .ensures) ∙ not-false _ (c .before .before .if2 .left)) (c .before .bad-offer .result) (c .before .bad-offer .ensures) (omega (arith, c .if3 .taken))
 
 kind-of-requires : tie.Need-kind-of-requires
 kind-of-requires c κs = search needs
@@ -49,29 +59,31 @@ doing-requires c κs = search needs
 done-requires : tie.Need-done-requires
 done-requires c κs = search needs
 
-returns-3 : tie.Need-returns-3
-returns-3 c =
-    let a = c .before .before .before .before .before .before .before .before in
+returns-4 : tie.Need-returns-4
+returns-4 c =
+    let a = c .before .before .before .before .before .before .before .before .before .before .before in
     let k = c .before .before .before .kind-of in
     let t = c .before .before .action-at in
     let d = c .before .doing in
-    step-done (a .args .s) (a .args .burst) (a .args .offer) (sym (c .before .before .before .before .before .before .before .sound .ensures) ∙ not-false _ (c .before .before .before .before .before .before .if1 .left)) (c .before .before .before .before .before .bad-offer .result) (c .before .before .before .before .before .bad-offer .ensures) (c .before .before .before .before .if2 .left) (c .done .result)
+    step-done (a .args .s) (a .args .burst) (a .args .offer) (c .before .before .before .before .before .before .before .before .before .before .bad-call .result) (c .before .before .before .before .before .before .before .before .before .before .bad-call .ensures) (c .before .before .before .before .before .before .before .before .before .if1 .left) (sym (c .before .before .before .before .before .before .before .before .sound .ensures) ∙ not-false _ (c .before .before .before .before .before .before .before .if2 .left)) (c .before .before .before .before .before .before .bad-offer .result) (c .before .before .before .before .before .before .bad-offer .ensures) (c .before .before .before .before .before .if3 .left) (c .done .result)
     (c .done .ensures
     ∙ ap (done (a .args .s) (a .args .burst) (a .args .offer))
     (d .ensures
-    ∙ ap (λ (x : Action). doingOf x (a .args .s .role) (a .args .s .place)) (t .ensures ∙ ap (actionOf (a .args .s .place)) (k .ensures))
-    ∙ rows-agree (a .args .s .role) (a .args .s .place) (a .args .burst)))
+    ∙ ap (λ (x : Action). doingOf x (a .args .s .role) (a .args .s .place) (callOf (a .args .s .own .four) (a .args .burst))) (t .ensures ∙ ap (actionOf (a .args .s .place)) (k .ensures))
+    ∙ rows-agree (a .args .s .role) (a .args .s .place) (a .args .s .own) (a .args .burst)))
 
 pub step-spec : {M : Type 1} → statement M
 step-spec =
     tie.close
     (tie.spec
-    sound-requires
+    bad-call-requires
     returns
-    bad-offer-requires
+    sound-requires
     returns-2
+    bad-offer-requires
+    returns-3
     kind-of-requires
     action-at-requires
     doing-requires
     done-requires
-    returns-3)
+    returns-4)

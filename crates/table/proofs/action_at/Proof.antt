@@ -8,9 +8,10 @@ use native.Mathlib.Omega.{arith}
 use lib.Dec.{lit<}
 use lib.ListN.{getD}
 use Rattle.mode_a.specs.declared.Number.the-variants.{One}
+use Rattle.mode_a.specs.declared.Mark.{Mark}
 use Rattle.mode_a.specs.declared.Place.{Place}
-use Rattle.mode_a.specs.declared.Place.the-variants.{Sending, Turning, Opening, Ending, Receiving, Asking, StandBy, Lost}
-use Rattle.mode_a.specs.Station.{silence}
+use Rattle.mode_a.specs.declared.Place.the-variants.{Sending, Turning, Opening, Ending, Receiving, Asking, StandBy, Lost, Calling}
+use Rattle.mode_a.specs.Station.{silence, noIdentity, resting}
 use Rattle.table.specs.declared.Kind.{Kind}
 use Rattle.table.specs.declared.Action.{Action}
 use Rattle.table.specs.Kinds.{columnOf}
@@ -18,15 +19,16 @@ use Rattle.table.specs.Actions.{actionOf, rowNo}
 use Rattle.table.proofs.action_at.Statement.{statement}
 use Rattle.table.proofs.action_at.Tie as tie
 
-row-lt : (p : Place) → rowNo p < 8
+row-lt : (p : Place) → rowNo p < 9
 row-lt (Sending h) = lit< tt
 row-lt (Turning n) = lit< tt
 row-lt Opening = lit< tt
 row-lt (Ending e) = lit< tt
 row-lt (Receiving n) = lit< tt
 row-lt Asking = lit< tt
-row-lt StandBy = lit< tt
+row-lt (StandBy w) = lit< tt
 row-lt Lost = lit< tt
+row-lt (Calling c) = lit< tt
 
 column-lt : (k : Kind) → columnOf k < 12
 column-lt Kind.Cs1Block = lit< tt
@@ -70,8 +72,9 @@ table =
     ∷ by-kind (actionOf (Ending (record { number = One; total = 0 })))
     ∷ by-kind (actionOf (Receiving One))
     ∷ by-kind (actionOf Asking)
-    ∷ by-kind (actionOf StandBy)
+    ∷ by-kind (actionOf (resting 0))
     ∷ by-kind (actionOf Lost)
+    ∷ by-kind (actionOf (Calling (record { to = noIdentity .four; sent = 0; last = Mark.None })))
     ∷ []
 
 at-row : (p : Place) → getD table (rowNo p) [] ≡ by-kind (actionOf p)
@@ -82,8 +85,9 @@ at-row Opening = refl
 at-row (Ending e) = refl
 at-row (Receiving n) = refl
 at-row Asking = refl
-at-row StandBy = refl
+at-row (StandBy w) = refl
 at-row Lost = refl
+at-row (Calling c) = refl
 
 at-both : (p : Place) (k : Kind) → getD (getD table (rowNo p) []) (columnOf k) Action.Asked1 ≡ actionOf p k
 unfolding actionOf

@@ -1,0 +1,183 @@
+// What Stand-by and Calling do with what they hear (02, T-02; 001, 3.5). Which place hears, and what a control signal at Calling is, is
+// told by `table`; `moves` hands over what the place carries.
+ghost use mathlib.Core.Path.{_≡_};
+ghost use Rattle.laws.specs.Choice.{if_then_else_};
+ghost use Rattle.mode_a.specs.Calls.{isCallable, nextBlock};
+ghost use Rattle.mode_a.specs.Station.{marks};
+ghost use Rattle.mode_a.specs.Heard.{Cs, callOf};
+ghost use Rattle.mode_a.specs.Rows.{bothHeard, callsOn, calling};
+ghost use Rattle.calling.specs.Carried.{waitingIn, calledIn, listening};
+use mode_a::Called;
+use mode_a::Doing;
+use mode_a::Identity;
+use mode_a::Mark;
+use mode_a::Number;
+use mode_a::Own;
+use mode_a::Place;
+use mode_a::Station;
+use mode_a::Waiting;
+use mode_a::Words;
+
+const UNHEARD: Waiting = Waiting {
+    wait: 0,
+    heard: Mark::None,
+};
+
+const UNCALLED: Called = Called {
+    to: Identity(0, 0, 0, 0),
+    sent: 0,
+    last: Mark::None,
+};
+
+// What Stand-by carries.
+fn waiting_in(place: Place) -> Waiting
+    ensures { λ r. ⌜ r ≡ waitingIn place ⌝ }
+{
+    match place {
+        Place::Sending(_) => UNHEARD,
+        Place::Turning(_) => UNHEARD,
+        Place::Opening => UNHEARD,
+        Place::Ending(_) => UNHEARD,
+        Place::Receiving(_) => UNHEARD,
+        Place::Asking => UNHEARD,
+        Place::StandBy(waiting) => waiting,
+        Place::Lost => UNHEARD,
+        Place::Calling(_) => UNHEARD,
+    }
+}
+
+// What Calling carries.
+fn called_in(place: Place) -> Called
+    ensures { λ r. ⌜ r ≡ calledIn place ⌝ }
+{
+    match place {
+        Place::Sending(_) => UNCALLED,
+        Place::Turning(_) => UNCALLED,
+        Place::Opening => UNCALLED,
+        Place::Ending(_) => UNCALLED,
+        Place::Receiving(_) => UNCALLED,
+        Place::Asking => UNCALLED,
+        Place::StandBy(_) => UNCALLED,
+        Place::Lost => UNCALLED,
+        Place::Calling(called) => called,
+    }
+}
+
+// The mark, where all four signals are of table 3a: a station with another identity, or with none, hears no call.
+fn if_callable(four: Identity, mark: Mark) -> Mark
+    ensures { λ r. ⌜ r ≡ (if isCallable four then mark else Mark.None) ⌝ }
+{
+    if four.first_outside() < 4 {
+        return Mark::None;
+    }
+    mark
+}
+
+// Which of the own call blocks the burst is, if either. Table 3a is asked only where the burst is one of the two.
+fn call_of(four: Identity, b: Words) -> Mark
+    ensures { λ r. ⌜ r ≡ callOf four b ⌝ }
+{
+    if table::is_words(b, four.0, signals::RQ, four.1) {
+        return if_callable(four, Mark::One);
+    }
+    if table::is_words(b, four.2, four.3, signals::RQ) {
+        return if_callable(four, Mark::Two);
+    }
+    Mark::None
+}
+
+// "after both blocks in succession": in either order; the same block twice is one.
+fn both_heard(before: Mark, now: Mark) -> bool
+    ensures { λ r. ⌜ r ≡ bothHeard before now ⌝ }
+{
+    match before {
+        Mark::None => false,
+        Mark::One => match now {
+            Mark::None => false,
+            Mark::One => false,
+            Mark::Two => true,
+        },
+        Mark::Two => match now {
+            Mark::None => false,
+            Mark::One => true,
+            Mark::Two => false,
+        },
+    }
+}
+
+// Stand-by that hears a burst: it answers a call, or keeps which of its own call blocks this is.
+pub fn listening(place: Place, own: Own, burst: Words) -> Doing
+    ensures { λ r. ⌜ r ≡ listening (waitingIn place) (callOf (own .four) burst) ⌝ }
+{
+    let four = own.four;
+    let w = waiting_in(place);
+    let before = w.heard;
+    let heard = call_of(four, burst);
+    if both_heard(before, heard) {
+        return Doing::Answers;
+    }
+    Doing::Listens(Waiting {
+        wait: w.wait,
+        heard: heard,
+    })
+}
+
+// "sends call blocks 1 and 2 in turn": the block that follows so many of them.
+fn next_block(to: Identity, sent: u8) -> Words
+    ensures { λ r. ⌜ r ≡ nextBlock to sent ⌝ }
+{
+    if sent % 2 == 0 {
+        return to.block_1();
+    }
+    to.block_2()
+}
+
+// Calling that hears neither what completes the call nor CS3: the next call block, "for at most 128 cycles".
+pub fn calls_on(place: Place, heard: Mark) -> Doing
+    ensures { λ r. ⌜ r ≡ callsOn (calledIn place) heard ⌝ }
+{
+    let c = called_in(place);
+    let to = c.to;
+    let sent = c.sent;
+    if Station::CALLS <= sent {
+        return Doing::Rests(Station::CALLS, mode_a::SILENCE);
+    }
+    Doing::Goes(
+        Place::Calling(Called {
+            to: to,
+            sent: sent + 1,
+            last: heard,
+        }),
+        next_block(to, sent),
+    )
+}
+
+// Whether the step before heard the control signal of the number.
+fn marks(last: Mark, number: Number) -> bool
+    ensures { λ r. ⌜ r ≡ marks last number ⌝ }
+{
+    match last {
+        Mark::None => false,
+        Mark::One => match number {
+            Number::One => true,
+            Number::Two => false,
+        },
+        Mark::Two => match number {
+            Number::One => false,
+            Number::Two => true,
+        },
+    }
+}
+
+// Calling that hears the control signal of a number: "two successive identical CS1 or CS2" complete the call.
+pub fn called(place: Place, number: Number) -> Doing
+    ensures { λ r. ⌜ r ≡ calling (calledIn place) (Cs number) ⌝ }
+{
+    let c = called_in(place);
+    let to = c.to;
+    let last = c.last;
+    if marks(last, number) {
+        return Doing::Reaches(to, number);
+    }
+    calls_on(place, number.mark())
+}
