@@ -14,6 +14,7 @@ second/tests.py runs all of them.
 """
 
 import os
+import random
 import sys
 import types
 from collections import namedtuple
@@ -303,13 +304,14 @@ fault("Lost one step late", "steps, hear", "station",
 fault("Lost one step early", "steps, hear", "station",
       "if count == MOST_COUNT + 1:", "if count == MOST_COUNT:")
 fault("Lost forgets that a + was heard", "steps", "station",
-      "lost = at(station, LOST)._replace(count=0)",
-      "lost = at(station, LOST)._replace(count=0, plus=False)")
+      "lost_now = at(station, LOST)._replace(count=0)",
+      "lost_now = at(station, LOST)._replace(count=0, plus=False)")
 fault("Lost keeps its count", "steps", "station",
-      "lost = at(station, LOST)._replace(count=0)", "lost = at(station, LOST)")
+      "lost_now = at(station, LOST)._replace(count=0)",
+      "lost_now = at(station, LOST)")
 fault("the 32nd still sends its burst", "steps, hear", "station",
-      "return Answer(lost, SILENCE, (), False)",
-      "return Answer(lost, answer.burst, (), False)")
+      "return Answer(lost_now, SILENCE, (), False)",
+      "return Answer(lost_now, answer.burst, (), False)")
 fault("confirming and accepting count as repetitions", "steps, hear", "station",
       "                  and not confirmed_or_accepted)", "                  )")
 fault("the count is kept after other steps", "steps, hear", "station",
@@ -331,9 +333,8 @@ fault("Sending asked for its own number sends RQ", "steps, hear", "station",
       "return Row(Answer(station, station.held, (), False), False)",
       "return Row(Answer(station, THREE_RQ, (), False), False)")
 fault("nothing does not count as taken", "steps", "station",
-      "return Answer(at(station, SENDING, number, held=block), block, (), True)",
-      "return Answer(at(station, SENDING, number, held=block), block, (),\n"
-      "                  offer.kind != \"nothing\")")
+      "                  offer.kind != \"call\")",
+      "                  offer.kind not in (\"call\", \"nothing\"))")
 fault("nothing sends the block of an over", "steps", "station",
       "        block = BETAS", "        block = OVER")
 fault("CS3 at Sending takes the offer", "steps", "station",
@@ -441,6 +442,327 @@ fault("the over is heard only at the end of a block", "steps, hear", "station",
       "            over = over and word is block[2]\n")
 fault("the over does not reach across blocks", "steps, hear", "station",
       "    over = False\n", "    over = False\n    plus = False\n")
+
+# --- The station: calls (02, T-02) ---
+
+# Where a word is looked up in table 3a, and of the step the refusal.
+IN_TABLE_3A = "IDENTITY_LETTERS = \"ABCDEFIKMOPQRSTUVXYZ\""
+REFUSES_8 = """    if offer.kind == "call":
+        index = first_outside(offer.words)
+        if index is not None:
+            return Refused(8, index)
+"""
+COUNT_JUDGED = "    if station.count > MOST_COUNT:\n        return Refused(4, 0)\n"
+
+fault("table 3a: R is outside", "steps, calls I", "signals",
+      IN_TABLE_3A, "IDENTITY_LETTERS = \"ABCDEFIKMOPQSTUVXYZ\"")
+fault("table 3a: W stands in the place of X", "steps, calls I", "signals",
+      IN_TABLE_3A, "IDENTITY_LETTERS = \"ABCDEFIKMOPQRSTUVWYZ\"")
+fault("table 3a: J is within", "steps, calls I", "signals",
+      IN_TABLE_3A, "IDENTITY_LETTERS = \"ABCDEFIJKMOPQRSTUVXYZ\"")
+fault("table 3a: all letters are within", "steps, calls I", "signals",
+      IN_TABLE_3A, "IDENTITY_LETTERS = \"ABCDEFGHIJKLMNOPQRSTUVWXYZ\"")
+fault("table 3a: space is within", "steps, calls I", "signals",
+      IN_TABLE_3A, "IDENTITY_LETTERS = \"ABCDEFIKMOPQRSTUVXYZ \"")
+fault("table 3a: bit 7 is not looked at", "steps, calls I", "signals",
+      "return word in IDENTITY_SIGNALS", "return word % 128 in IDENTITY_SIGNALS")
+fault("table 3a: a zero is within", "steps, calls I", "signals",
+      "return word in IDENTITY_SIGNALS",
+      "return word == 0 or word in IDENTITY_SIGNALS")
+fault("table 3a: RQ is within", "steps, calls I", "signals",
+      "return word in IDENTITY_SIGNALS",
+      "return word == RQ or word in IDENTITY_SIGNALS")
+fault("an identity: the last word is not judged", "steps, calls I", "station",
+      "for index, word in enumerate(identity):",
+      "for index, word in enumerate(identity[:3]):")
+fault("an identity: refusal 8 tells the last such word", "steps, calls I", "station",
+      "for index, word in enumerate(identity):",
+      "for index, word in reversed(list(enumerate(identity))):")
+fault("an identity: refusal 8 tells a place from 1", "steps, calls I", "station",
+      "            return index\n    return None", "            return index + 1\n    return None")
+fault("standing by refuses 3 for 8", "calls I", "station",
+      "    index = first_outside(identity)\n    if index is not None:\n"
+      "        return Refused(8, index)",
+      "    index = first_outside(identity)\n    if index is not None:\n"
+      "        return Refused(3, index)")
+fault("station: refusal 8 gone", "steps", "station", REFUSES_8, "")
+fault("station: refusal 8 behind 4", "steps", "station",
+      REFUSES_8 + "    # \"Order: ... mode A step 4, 3\"\n" + COUNT_JUDGED,
+      COUNT_JUDGED + REFUSES_8)
+fault("station: refusal 8 behind 4 of the held words", "steps", "station",
+      REFUSES_8, "    if station.place != SENDING or all(\n"
+      "            may_stand_in_block(word) for word in station.held):\n"
+      + "".join("    " + line + "\n" for line in REFUSES_8.splitlines()))
+fault("station: refusal 8 behind 4 of the total", "steps", "station",
+      REFUSES_8, "    if station.place != ENDING or 1 <= station.total <= 4:\n"
+      + "".join("    " + line + "\n" for line in REFUSES_8.splitlines()))
+fault("station: refusal 8 at Stand-by alone", "steps", "station",
+      "    if offer.kind == \"call\":\n        index",
+      "    if offer.kind == \"call\" and station.place == STANDBY:\n        index")
+fault("station: refusal 8 only where no step is left to wait", "steps", "station",
+      "    if offer.kind == \"call\":\n        index",
+      "    if offer.kind == \"call\" and not (\n"
+      "            station.place == STANDBY and station.cycles):\n        index")
+fault("station: no refusal 8 at Lost", "steps", "station",
+      "    if offer.kind == \"call\":\n        index",
+      "    if offer.kind == \"call\" and station.place != LOST:\n        index")
+fault("station: refusal 8 is judged on the own identity too", "steps", "station",
+      "        index = first_outside(offer.words)\n",
+      "        index = first_outside(tuple(offer.words) + station.own)\n")
+fault("station: the identity called is judged at Calling", "steps", "station",
+      COUNT_JUDGED, COUNT_JUDGED + "    if station.place == CALLING and "
+      "first_outside(station.called) is not None:\n        return Refused(4, 0)\n")
+fault("station: over 128 call bursts are refused 4", "steps", "station",
+      COUNT_JUDGED, COUNT_JUDGED + "    if station.place == CALLING and "
+      "station.cycles > 128:\n        return Refused(4, 0)\n")
+fault("station: a wait over 128 is refused 4", "steps", "station",
+      COUNT_JUDGED, COUNT_JUDGED + "    if station.place == STANDBY and "
+      "station.cycles > 128:\n        return Refused(4, 0)\n")
+
+fault("call block 1 is that of two signals and RQ", "steps", "station",
+      "return (identity[0], RQ, identity[1])", "return (identity[0], identity[1], RQ)")
+fault("call block 2 is that of a three-block call", "steps", "station",
+      "return (identity[2], identity[3], RQ)", "return (RQ, identity[2], identity[3])")
+fault("call block 2 has its signals changed round", "steps", "station",
+      "return (identity[2], identity[3], RQ)", "return (identity[3], identity[2], RQ)")
+
+HEARS_CALL = "    if heard != 0 and station.last == other(heard):\n"
+OWN_BLOCK = "            if burst == call_block(station.own, number):\n"
+
+fault("one call block is enough", "steps", "station",
+      HEARS_CALL, "    if heard != 0:\n")
+fault("the second call block alone is enough", "steps", "station",
+      HEARS_CALL, "    if heard == 2:\n")
+fault("a call is heard in the order 1, 2 alone", "steps", "station",
+      HEARS_CALL, "    if heard == 2 and station.last == 1:\n")
+fault("a call is heard in the order 2, 1 alone", "steps", "station",
+      HEARS_CALL, "    if heard == 1 and station.last == 2:\n")
+fault("the same call block twice is heard as both", "steps", "station",
+      HEARS_CALL, "    if heard != 0 and station.last != 0:\n")
+fault("call blocks of an identity outside table 3a are heard", "steps, hear",
+      "station",
+      "    if first_outside(station.own) is None:\n", "    if True:\n")
+fault("call blocks of an own identity of zeros alone are not heard", "steps",
+      "station", "    if first_outside(station.own) is None:\n",
+      "    if station.own != NO_IDENTITY:\n")
+fault("of the own identity the first word alone is judged", "steps", "station",
+      "    if first_outside(station.own) is None:\n",
+      "    if first_outside(station.own[:1]) is None:\n")
+fault("a call block is heard by its first two words", "steps", "station",
+      OWN_BLOCK, "            if burst[:2] == call_block(station.own, number)[:2]:\n")
+fault("a call block is heard by its last two words", "steps", "station",
+      OWN_BLOCK, "            if burst[1:] == call_block(station.own, number)[1:]:\n")
+fault("a call block is heard with bit 7 set", "steps", "station",
+      OWN_BLOCK, "            if tuple(word % 128 for word in burst) == (\n"
+      "                    call_block(station.own, number)):\n")
+fault("a call block is heard with its signals in any order", "steps", "station",
+      OWN_BLOCK, "            if sorted(burst) == sorted("
+      "call_block(station.own, number)):\n")
+
+ANSWERS_CALL = "begin_call(at(station, RECEIVING, 1)._replace(master=False))"
+ANSWERED = "return Row(Answer(answering, single(CS1), (), False), False)"
+SILENT_THERE = """    return Row(Answer(station._replace(cycles=left, last=heard), SILENCE, (),
+                      False), False)
+"""
+PLACES_CALL = "    if offer.kind == \"call\" and station.cycles == 0:\n"
+BEGUN = "return station._replace(case=\"letters\", plus=False, other_end=None)"
+
+fault("a call answered: the role is not changed", "steps", "station",
+      ANSWERS_CALL, "begin_call(at(station, RECEIVING, 1))")
+fault("a call answered: it awaits 2", "steps", "station",
+      ANSWERS_CALL, "begin_call(at(station, RECEIVING, 2)._replace(master=False))")
+fault("a call answered: it is silent at first", "steps", "station",
+      ANSWERED, "return Row(Answer(answering, SILENCE, (), False), False)")
+fault("a call answered by CS2", "steps", "station",
+      ANSWERED, "return Row(Answer(answering, single(CS2), (), False), False)")
+fault("a call answered takes the offer", "steps", "station",
+      ANSWERED, "return Row(Answer(answering, single(CS1), (), True), False)")
+fault("a call answered: the own identity is at the other end", "steps", "station",
+      ANSWERED, "return Row(Answer(answering._replace(other_end=station.own),\n"
+      "                          single(CS1), (), False), False)")
+fault("no call is answered during the wait", "steps", "station",
+      HEARS_CALL, "    if heard != 0 and station.last == other(heard) and (\n"
+      "            station.cycles == 0):\n")
+fault("no call is answered where one is offered", "steps", "station",
+      HEARS_CALL, "    if heard != 0 and station.last == other(heard) and not (\n"
+      "            offer.kind == \"call\" and station.cycles == 0):\n")
+fault("a call begun: the case stays", "steps", "station",
+      BEGUN, "return station._replace(plus=False, other_end=None)")
+fault("a call begun: a + stays heard", "steps", "station",
+      BEGUN, "return station._replace(case=\"letters\", other_end=None)")
+fault("a call begun: who was at the other end stays", "steps", "station",
+      BEGUN, "return station._replace(case=\"letters\", plus=False)")
+
+fault("Stand-by is silent for good", "steps", "station",
+      "    STANDBY: standby,\n", "    STANDBY: lost,\n")
+fault("Stand-by places no call", "steps", "station",
+      PLACES_CALL, "    if False:\n")
+fault("a call is placed during the wait", "steps", "station",
+      PLACES_CALL, "    if offer.kind == \"call\":\n")
+fault("a call is placed one step early", "steps", "station",
+      PLACES_CALL, "    if offer.kind == \"call\" and station.cycles <= 1:\n")
+fault("a call is not placed where a call block is heard", "steps", "station",
+      PLACES_CALL,
+      "    if offer.kind == \"call\" and station.cycles == 0 and heard == 0:\n")
+fault("a station without an identity places no call", "steps", "station",
+      PLACES_CALL, "    if offer.kind == \"call\" and station.cycles == 0 and (\n"
+      "            station.own != NO_IDENTITY):\n")
+fault("a call placed is not reported as taken", "steps", "station",
+      "call_block(identity, 1), (), True)", "call_block(identity, 1), (), False)")
+fault("a call placed: block 2 goes out first", "steps", "station",
+      "call_block(identity, 1), (), True)", "call_block(identity, 2), (), True)")
+fault("a call placed: the role is not changed", "steps", "station",
+      "                                 ._replace(master=True))",
+      "                                 )")
+fault("a call placed: the first burst is not counted", "steps", "station",
+      "at(station, CALLING, cycles=1, called=identity)",
+      "at(station, CALLING, cycles=0, called=identity)")
+fault("a call placed: the control signal heard meanwhile counts", "steps", "station",
+      "at(station, CALLING, cycles=1, called=identity)",
+      "at(station, CALLING, cycles=1, called=identity,\n"
+      "                                    last={CS1: 1, CS2: 2}.get(burst[0], 0))")
+fault("a call placed: the identity called is at the other end at once", "steps",
+      "station", "call_block(identity, 1), (), True)",
+      "call_block(identity, 1), (), True)._replace(\n"
+      "            station=calling_now._replace(other_end=identity))")
+fault("the wait does not run down", "steps", "station",
+      "left = max(station.cycles - 1, 0)", "left = station.cycles")
+fault("the wait is over after a step", "steps", "station",
+      "left = max(station.cycles - 1, 0)", "left = 0")
+fault("a wait over 128 is cut to it", "steps", "station",
+      "left = max(station.cycles - 1, 0)", "left = max(min(station.cycles, 128) - 1, 0)")
+fault("a wait of none runs on from 255", "steps", "station",
+      "left = max(station.cycles - 1, 0)", "left = (station.cycles - 1) % 256")
+fault("the wait runs down only in silence", "steps", "station",
+      "left = max(station.cycles - 1, 0)",
+      "left = max(station.cycles - (burst == SILENCE), 0)")
+fault("a call block is kept over a burst between", "steps", "station",
+      SILENT_THERE, SILENT_THERE.replace("last=heard", "last=heard or station.last"))
+fault("a call block is kept over a damaged burst", "steps", "station",
+      SILENT_THERE, "    if any(bin(word).count(\"1\") != 4 for word in burst):\n"
+      "        heard = station.last\n" + SILENT_THERE)
+fault("the same call block again is forgotten", "steps", "station",
+      SILENT_THERE, "    if heard == station.last:\n        heard = 0\n"
+      + SILENT_THERE)
+fault("Stand-by keeps no call block", "steps", "station",
+      SILENT_THERE, SILENT_THERE.replace("last=heard", "last=0"))
+fault("Stand-by that stays sets nobody at the other end", "steps", "station",
+      SILENT_THERE, SILENT_THERE.replace("last=heard", "last=heard, other_end=None"))
+fault("Stand-by that stays sets letters case", "steps", "station",
+      SILENT_THERE, SILENT_THERE.replace("last=heard",
+                                         "last=heard, case=\"letters\""))
+fault("entering Stand-by: who was at the other end stays", "steps", "station",
+      "other_end = None if place == STANDBY else station.other_end",
+      "other_end = station.other_end")
+fault("becoming Lost: nobody is at the other end", "steps", "station",
+      "other_end = None if place == STANDBY else station.other_end",
+      "other_end = None if place in (STANDBY, LOST) else station.other_end")
+fault("a turn: nobody is at the other end", "steps", "station",
+      "other_end = None if place == STANDBY else station.other_end",
+      "other_end = None if place in (STANDBY, TURNING) else station.other_end")
+fault("every way into Stand-by has a wait", "steps", "station",
+      "    other_end = None if place == STANDBY",
+      "    if place == STANDBY:\n        cycles = CYCLES_TO_WAIT\n"
+      "    other_end = None if place == STANDBY")
+fault("Lost hears and places calls", "steps", "station",
+      "    LOST: lost,\n", "    LOST: standby,\n")
+
+HEARS_TWO = "    if heard != 0 and station.last == heard:\n"
+GIVES_UP = "    if first == CS3 or station.cycles >= MOST_CALL_BURSTS:\n"
+GOES_ON = "    again = at(station, CALLING, cycles=sent, last=heard, called=station.called)\n"
+
+fault("one control signal completes a call", "steps", "station",
+      HEARS_TWO, "    if heard != 0:\n")
+fault("CS1 and then CS2 complete a call", "steps", "station",
+      HEARS_TWO, "    if heard != 0 and station.last != 0:\n")
+fault("CS1 alone completes a call", "steps", "station",
+      HEARS_TWO, "    if heard == 1 and station.last == heard:\n")
+fault("two words that are no control signal complete a call", "steps", "station",
+      HEARS_TWO, "    if station.last == heard:\n        heard = heard or 1\n")
+fault("the answer to the 128th call burst is not heard", "steps", "station",
+      HEARS_TWO, "    if heard != 0 and station.last == heard and (\n"
+      "            station.cycles < MOST_CALL_BURSTS):\n")
+fault("Calling reads all three words", "steps", "station",
+      HEARS_TWO, "    if burst[1:] != (0, 0):\n        heard = 0\n" + HEARS_TWO)
+fault("a call completed under number 1 always", "steps", "station",
+      "return Row(take(reached, offer, heard), False)",
+      "return Row(take(reached, offer, 1), False)")
+fault("a call completed: the offer is not taken", "steps", "station",
+      "return Row(take(reached, offer, heard), False)",
+      "return Row(take(reached, NOTHING, heard)._replace(\n"
+      "            taken=offer.kind == \"nothing\"), False)")
+fault("a call completed: nobody is at the other end", "steps", "station",
+      "reached = station._replace(other_end=station.called)", "reached = station")
+fault("a call completed: the own identity is at the other end", "steps", "station",
+      "reached = station._replace(other_end=station.called)",
+      "reached = station._replace(other_end=station.own)")
+fault("a call completed leads to Opening", "steps", "station",
+      "return Row(take(reached, offer, heard), False)",
+      "return Row(Answer(at(reached, OPENING), request(station), (), False), False)")
+fault("CS3 at Calling is any other word", "steps", "station",
+      GIVES_UP, "    if station.cycles >= MOST_CALL_BURSTS:\n")
+fault("CS3 at Calling twice is wanted", "steps", "station",
+      GIVES_UP, "    if first == CS3 and station.last == 0 or (\n"
+      "            station.cycles >= MOST_CALL_BURSTS):\n")
+fault("127 call bursts", "steps", "station",
+      "MOST_CALL_BURSTS = 128", "MOST_CALL_BURSTS = 127")
+fault("129 call bursts", "steps", "station",
+      "MOST_CALL_BURSTS = 128", "MOST_CALL_BURSTS = 129")
+fault("calls without end", "steps", "station",
+      GIVES_UP, "    if first == CS3:\n")
+fault("exactly 128 call bursts end a call, more do not", "steps", "station",
+      GIVES_UP, "    if first == CS3 or station.cycles == MOST_CALL_BURSTS:\n")
+fault("a wait of 127", "steps", "station",
+      "CYCLES_TO_WAIT = 128", "CYCLES_TO_WAIT = 127")
+fault("a wait of 129", "steps", "station",
+      "CYCLES_TO_WAIT = 128", "CYCLES_TO_WAIT = 129")
+fault("no wait where the call bursts have run out", "steps", "station",
+      "        waiting = at(station, STANDBY, cycles=CYCLES_TO_WAIT)\n",
+      "        waiting = at(station, STANDBY,\n"
+      "                     cycles=CYCLES_TO_WAIT if first == CS3 else 0)\n")
+fault("no wait after CS3", "steps", "station",
+      "        waiting = at(station, STANDBY, cycles=CYCLES_TO_WAIT)\n",
+      "        waiting = at(station, STANDBY,\n"
+      "                     cycles=0 if first == CS3 else CYCLES_TO_WAIT)\n")
+fault("Calling that gives up is Lost", "steps", "station",
+      "        waiting = at(station, STANDBY, cycles=CYCLES_TO_WAIT)\n",
+      "        waiting = at(station, LOST)\n")
+fault("Calling that gives up is a slave", "steps", "station",
+      "        waiting = at(station, STANDBY, cycles=CYCLES_TO_WAIT)\n",
+      "        waiting = at(station, STANDBY, cycles=CYCLES_TO_WAIT)._replace(\n"
+      "            master=False)\n")
+fault("Calling that gives up sets letters case", "steps", "station",
+      "        waiting = at(station, STANDBY, cycles=CYCLES_TO_WAIT)\n",
+      "        waiting = at(station, STANDBY, cycles=CYCLES_TO_WAIT)._replace(\n"
+      "            case=\"letters\")\n")
+fault("Calling sends block 1 again and again", "steps", "station",
+      "1 if sent % 2 == 1 else 2)", "1)")
+fault("Calling sends its blocks the other way round", "steps", "station",
+      "1 if sent % 2 == 1 else 2)", "1 if sent % 2 == 0 else 2)")
+fault("Calling sends each block twice", "steps", "station",
+      "1 if sent % 2 == 1 else 2)", "1 if sent % 4 in (1, 2) else 2)")
+fault("a control signal is kept over what is none", "steps", "station",
+      GOES_ON, GOES_ON.replace("last=heard", "last=heard or station.last"))
+fault("the first control signal is kept, not the last", "steps", "station",
+      GOES_ON, GOES_ON.replace("last=heard", "last=heard and (station.last or heard)"))
+fault("Calling keeps no control signal", "steps", "station",
+      GOES_ON, GOES_ON.replace("last=heard", "last=0"))
+fault("Calling has a time-out", "steps", "station",
+      "COUNTING = (SENDING, TURNING,", "COUNTING = (CALLING, SENDING, TURNING,")
+fault("Stand-by has a time-out", "steps", "station",
+      "COUNTING = (SENDING, TURNING,", "COUNTING = (STANDBY, SENDING, TURNING,")
+fault("a call offered is reported as taken where a row takes", "steps", "station",
+      "                  offer.kind != \"call\")", "                  True)")
+fault("a call offered at Sending holds the block back", "steps", "station",
+      "        return Row(take(station, offer, other(station.number)), True)",
+      "        if offer.kind == \"call\":\n"
+      "            return Row(Answer(station, station.held, (), False), False)\n"
+      "        return Row(take(station, offer, other(station.number)), True)")
+fault("a call offered ends the circuit", "steps", "station",
+      "    if offer.kind == \"end\":\n", "    if offer.kind in (\"end\", \"call\"):\n")
+fault("a call offered at Receiving turns the direction", "steps", "station",
+      "        if over or offer.kind == \"over\":\n",
+      "        if over or offer.kind in (\"over\", \"call\"):\n")
 
 # --- Mode B: the sender ---
 
@@ -661,6 +983,22 @@ fault("steps: a short last record is filled", "steps", "programs",
       "    for start in range(0, len(data), RECORD):\n"
       "        station, burst, offer = read_step(\n"
       "            (data[start:start + RECORD] + bytes(RECORD))[:RECORD])")
+fault("steps: the place is taken modulo 16", "steps", "programs",
+      "place = PLACES[record[1] % 9]", "place = (PLACES * 2)[record[1] % 16]")
+fault("steps: there are four offers", "steps", "programs",
+      "kind = OFFERS[record[13] % 5]", "kind = OFFERS[record[13] % 4]")
+fault("steps: a call has the words of a text before its last", "steps", "programs",
+      "words = record[28:32] if", "words = record[14:17] + record[31:32] if")
+fault("steps: who is at the other end is told by any byte", "steps", "programs",
+      "if record[23] % 2 == 1:", "if record[23] != 0:")
+fault("steps: the call block heard is the byte itself", "steps", "programs",
+      "last = record[18] % 3", "last = record[18] if record[18] < 3 else 0")
+fault("steps: steps to wait are taken at every place", "steps", "programs",
+      "    if place in COUNTS_CYCLES:\n", "    if place != mode_a.ENDING:\n")
+fault("steps: the identity called is that of the call offered", "steps", "programs",
+      "called = tuple(record[3:7])", "called = tuple(record[28:32])")
+fault("steps: the own identity is shown", "steps", "programs",
+      "+ s.called + other_end", "+ s.own + other_end")
 fault("steps: the number is the byte itself", "steps", "programs",
       "number = 1 if record[2] % 2 == 1 else 2", "number = 1 if record[2] == 1 else 2")
 fault("calls: a room of 8,193 passes", "calls", "programs",
@@ -710,6 +1048,11 @@ fault("calls R: a run of 0 keeps its last signal", "calls R", "programs",
       "        return broadcast.Searching(max(run, 1),")
 fault("calls R: flags are whole bytes", "calls R", "programs",
       "printing = fields[8] % 2 == 1", "printing = fields[8] != 0")
+fault("calls I: three words are enough", "calls I", "programs",
+      "answer = mode_a.standing_by(cut(data, place, 4))",
+      "answer = mode_a.standing_by(cut(data, place, 4)[:3])")
+fault("calls I: a record has three words", "calls I", "programs",
+      "    return line, place + 4\n", "    return line, place + 3\n")
 fault("calls R: the words in the other order", "calls R", "programs",
       "oldest, middle, newest = fields[4], fields[5], fields[6]",
       "oldest, middle, newest = fields[6], fields[5], fields[4]")
@@ -788,16 +1131,19 @@ COMPILED = {module: compile(source, module + ".py", "exec")
 def programs_with(one):
     """`run` of a second program with one fault; of none where it is None."""
     compiled = dict(COMPILED)
+    # Those before the faulty one do not know of it, and need not be loaded again.
+    names = MODULES
     if one is not None:
+        names = MODULES[MODULES.index(one.module):]
         source = SOURCES[one.module]
         if source.count(one.old) != 1:
             raise BadFault("what it replaces is %d times in %s.py"
                            % (source.count(one.old), one.module))
         compiled[one.module] = compile(source.replace(one.old, one.new),
                                        one.module + ".py", "exec")
-    kept = {name: sys.modules.get(name) for name in MODULES}
+    kept = {name: sys.modules.get(name) for name in names}
     try:
-        for name in MODULES:
+        for name in names:
             module = types.ModuleType(name)
             sys.modules[name] = module
             exec(compiled[name], module.__dict__)
@@ -812,14 +1158,20 @@ def programs_with(one):
 
 # --- The inputs, in pieces ---
 
-STEPS_IN_A_PIECE = 200
+STEPS_IN_A_PIECE = 50
 CALLS_IN_A_PIECE = 20
 
 
-def steps_pieces(data):
-    """Records do not know of each other, so an input may be cut between them."""
-    size = 17 * STEPS_IN_A_PIECE
-    return [data[start:start + size] for start in range(0, len(data), size)]
+def steps_pieces(all_data):
+    """Records do not know of each other, so an input may be cut between them.
+    Behind the short inputs the pieces are shuffled: records of a sort stand
+    together in an input, and each fault is told by few sorts."""
+    size = programs.RECORD * STEPS_IN_A_PIECE
+    short = [data for data in all_data if len(data) <= size]
+    pieces = [data[start:start + size] for data in all_data[len(short):]
+              for start in range(0, len(data), size)]
+    random.Random(len(pieces)).shuffle(pieces)
+    return short + pieces
 
 
 def calls_by_kind(all_data):
@@ -844,7 +1196,7 @@ def pieces_of(name, all_cases):
     if name == "calls":
         pieces = calls_by_kind(all_data)
     elif name == "steps":
-        pieces = {name: [piece for data in all_data for piece in steps_pieces(data)]}
+        pieces = {name: steps_pieces(all_data)}
     else:
         pieces = {name: all_data}
     usages = [(case.words, case.data) for case in all_cases if case.words]

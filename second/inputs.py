@@ -18,9 +18,10 @@ import station as mode_a
 import text
 from refusal import Refused
 from signals import (ALPHA, BETA, CARRIAGE_RETURN, CS1, CS2, CS3, FIGURES,
-                     LETTERS, LINE_FEED, MEANING, PLUS, QUERY, RQ, is_traffic)
-from station import (ASKING, ENDING, LOST, OPENING, RECEIVING, SENDING, STANDBY,
-                     TURNING)
+                     IDENTITY_SIGNALS, LETTERS, LINE_FEED, MEANING, PLUS, QUERY,
+                     RQ, is_traffic)
+from station import (ASKING, CALLING, ENDING, LOST, OPENING, RECEIVING, SENDING,
+                     STANDBY, TURNING)
 
 # about: what the input tries, for the report of a difference.
 # fed: how the program gets it.  A file gives it in whole blocks; bytes and odd
@@ -38,6 +39,7 @@ MUTILATED = [word for word in WORDS if MEANING[word] == 0]
 TRAFFIC = [word for word in WORDS if is_traffic(word)]
 IN_BLOCK = TRAFFIC + [BETA]
 NOT_IN_BLOCK = [word for word in WORDS if word not in IN_BLOCK]
+NOT_IN_IDENTITY = [word for word in WORDS if word not in IDENTITY_SIGNALS]
 CAPITALS = b"ABCDEFGHIJKLMNOPQRSTUVWXYZ"
 SMALL = b"abcdefghijklmnopqrstuvwxyz"
 # The bytes that encoding takes (01, "Text"; 02, T-01), and those it refuses.
@@ -691,6 +693,10 @@ def helpful_burst(draw, slave):
         return single(draw.choice((other, other, CS3)))
     if slave.place == TURNING:
         return (RQ,) + draw.choice(((0, 0), (RQ, RQ)))
+    if slave.place == CALLING:
+        return single(draw.choice((CS1, CS2)))
+    if slave.place == STANDBY and slave.own != mode_a.NO_IDENTITY:
+        return mode_a.call_block(slave.own, draw.choice((1, 2)))
     return any_burst(draw)
 
 
@@ -827,6 +833,11 @@ def hear_cases(draw):
         out.append(quickly("alphas at Receiving", joined(
             left_circuit(draw, RECEIVING, (ALPHA, ALPHA, ALPHA)))))
     out.append(quickly("32 bad bursts and nothing behind them", bytes(96)))
+    # What would be the call blocks of a station without an identity.
+    for block in ((0, RQ, 0), (71, RQ, 71)):
+        behind = (block[0], block[2], RQ)
+        out.append(quickly("call blocks at Stand-by", joined(
+            [(ALPHA, ALPHA, ALPHA), block, behind, block, behind])))
     # The time-out to the burst, at each place that has one.
     for place in (SENDING, TURNING, OPENING, RECEIVING, ASKING):
         for bad in (30, 31, 32, 33):
@@ -892,57 +903,140 @@ def burst_of_kind(draw, kind):
         (71, 71, RQ), (71, 0, 71), (128 + CS1, 0, 0), (71, 86, ALPHA)))
 
 
+# Sorts of offer: nothing, good text, bad text, over, end, text with one word of
+# any value, a good call, a bad one.
+NO_OFFER, TEXT, BAD_TEXT, OVER, END, ANY_TEXT, CALL, BAD_CALL = range(8)
+SORTS = range(8)
+
+
 def offer_of_sort(draw, sort):
-    """Byte 13 and the three words: nothing, good text, bad text, over, end,
-    and text with one word of any value."""
-    kind = (0, 1, 1, 2, 3, 1)[sort]
-    words = draw.choices(IN_BLOCK, k=3)
-    if sort == 2:
+    """Byte 13, the three words of a text and the four of a call.  Those that the
+    kind does not have are of any value."""
+    kind = (0, 1, 1, 2, 3, 1, 4, 4)[sort]
+    words = draw.choices(IN_BLOCK, k=3) if kind == 1 else draw.randbytes(3)
+    if sort == BAD_TEXT:
         for index in draw.choice(((0,), (1,), (2,), (0, 1), (1, 2), (0, 1, 2))):
             words[index] = draw.choice(NOT_IN_BLOCK)
-    elif sort == 5:
+    elif sort == ANY_TEXT:
         words[draw.randrange(3)] = draw.choice(WORDS)
-    elif kind != 1:
-        words = draw.choices(WORDS, k=3)
-    return (kind + 4 * draw.randrange(64),) + tuple(words)
+    if kind == 4:
+        called = identity(draw)
+        if sort == BAD_CALL:
+            called = outside(draw, called)
+    else:
+        called = draw.randbytes(4)
+    return (stretched(draw, kind, 5), *words, *called)
+
+
+NOTHING_OFFERED = (0,) * 8
+
+
+def call_offer(called):
+    return (4, 0, 0, 0) + tuple(called)
+
+
+def stretched(draw, value, step):
+    """A byte of which only the remainder counts."""
+    return value + step * int(draw.random() * ((255 - value) // step + 1))
+
+
+# Few letters, so that identities are often alike in some of their places.
+FEW_LETTERS = IDENTITY_SIGNALS[:3]
+
+
+def identity(draw):
+    """Four words of table 3a."""
+    return tuple(draw.choices(draw.choice((FEW_LETTERS, IDENTITY_SIGNALS)), k=4))
+
+
+# Words outside table 3a that a wrong rule may take for one within it: the letters
+# that it leaves out, signals that are no letters, and one of its letters with
+# bit 7 set.
+NEARLY_IN_IDENTITY = [word for word in INTACT if word not in IDENTITY_SIGNALS]
+NEARLY_IN_IDENTITY += [0, 128 + IDENTITY_SIGNALS[0]]
+
+
+def outside(draw, words):
+    """The identity with one word outside table 3a, or more."""
+    words = list(words)
+    for index in draw.choice(((0,), (1,), (2,), (3,), (0, 3), (1, 2), (2, 3),
+                              (0, 1, 2, 3))):
+        words[index] = draw.choice(draw.choice((NEARLY_IN_IDENTITY,
+                                                NOT_IN_IDENTITY)))
+    return tuple(words)
+
+
+def own_identity(draw):
+    """Most often one that can be called; else none, or one with a word outside
+    table 3a."""
+    way = draw.randrange(10)
+    if way < 7:
+        return identity(draw)
+    return mode_a.NO_IDENTITY if way == 7 else outside(draw, identity(draw))
+
+
+# Steps left to wait and call bursts sent: around none and around 128.
+CYCLES = (0, 1, 2, 3, 126, 127, 128, 129, 254, 255)
 
 
 def record(draw, role, place, number, count, burst, offer, total=None,
-           case=None, plus=None, held=None):
-    """A record of 17 bytes.  Only the low part of a field counts, so the rest
-    of its byte is drawn at random; so are fields the place does not carry."""
-    def above(value, step):
-        return value + step * draw.randrange(256 // step)
-
+           case=None, plus=None, held=None, cycles=None, last=None, own=None,
+           other_end=None, called=None):
+    """A record of 32 bytes.  Only the low part of a field counts, so the rest
+    of its byte is drawn at random; so are fields the place does not carry.
+    other_end: an identity, or "nobody"; called: the identity called at
+    Calling, in the bytes of the words held and of the total."""
     if held is None:
         held = draw.choices(IN_BLOCK, k=3)
         if draw.random() < 0.05:
             held[draw.randrange(3)] = draw.choice(NOT_IN_BLOCK)
     if total is None:
         total = draw.choice((1, 2, 3, 4, 1, 2, 3, 4, 0, 5, 255))
+    if called is not None:
+        held, total = called[:3], called[3]
     if case is None:
         case = draw.randrange(2)
     if plus is None:
         plus = draw.randrange(2)
-    fields = (above(role, 2), above(place, 8), above(number, 2)) + tuple(held) + (
-        total, count, above(case, 2), above(plus, 2))
-    return bytes(fields + tuple(burst) + tuple(offer))
+    if cycles is None:
+        cycles = draw.choice(CYCLES)
+    if last is None:
+        last = draw.randrange(3)
+    if own is None:
+        own = own_identity(draw)
+    known = draw.randrange(2)
+    if other_end is not None:
+        known = 0 if other_end == "nobody" else 1
+    if other_end in (None, "nobody"):
+        other_end = draw.randbytes(4)
+    return bytes((
+        stretched(draw, role, 2), stretched(draw, place, 9),
+        stretched(draw, number, 2), *held, total, count,
+        stretched(draw, case, 2), stretched(draw, plus, 2), *burst, *offer[:4],
+        cycles, stretched(draw, last, 3), *own, stretched(draw, known, 2),
+        *other_end, *offer[4:]))
 
 
 def written_out(draw, station, burst, offer):
-    """The record of a step of this station; offer is byte 13 and three words."""
+    """The record of a step of this station; offer as of `offer_of_sort`."""
     held = station.held if station.place == SENDING else None
     total = station.total if station.place == ENDING else None
+    called = station.called if station.place == CALLING else None
+    counted = station.place in programs.COUNTS_CYCLES
     return record(draw, 0 if station.master else 1,
                   programs.PLACES.index(station.place), station.number % 2,
                   station.count, burst, offer, total=total,
                   case=0 if station.case == "letters" else 1,
-                  plus=int(station.plus), held=held)
+                  plus=int(station.plus), held=held,
+                  cycles=station.cycles if counted else None,
+                  last=station.last if counted else None, own=station.own,
+                  other_end=station.other_end or "nobody", called=called)
 
 
 def offered(offer):
-    """The offer of byte 13 and the three words behind it."""
-    return mode_a.Offer(programs.OFFERS[offer[0] % 4], tuple(offer[1:]))
+    """The offer of byte 13 and the words behind it."""
+    kind = programs.OFFERS[offer[0] % 5]
+    return mode_a.Offer(kind, tuple(offer[4:] if kind == "call" else offer[1:4]))
 
 
 def spoilt(draw, burst):
@@ -960,7 +1054,8 @@ def chain_records(draw, station, most):
     silent_for = 0
     for _ in range(most):
         helped = draw.random() < 0.004
-        offer = offer_of_sort(draw, draw.choice((0, 0, 1, 1, 3, 4)))
+        offer = offer_of_sort(draw, draw.choice(
+            (NO_OFFER, NO_OFFER, TEXT, TEXT, OVER, END, CALL)))
         for _ in range(50):
             burst = helpful_burst(draw, station) if helped else draw.choice(
                 (any_burst(draw), spoilt(draw, helpful_burst(draw, station))))
@@ -982,7 +1077,9 @@ def circuit_records(draw, most, chance):
     burst = single(CS1)
     for _ in range(most):
         burst = tuple(damaged(draw, burst, chance, MUTILATED))
-        sort = draw.choice((0, 1, 1, 1, 1, 3)) if draw.random() < 0.99 else 4
+        sort = draw.choice((NO_OFFER, TEXT, TEXT, TEXT, TEXT, OVER))
+        if draw.random() < 0.02:
+            sort = draw.choice((END, CALL))
         offer = offer_of_sort(draw, sort)
         yield written_out(draw, hearer, burst, offer)
         answer = mode_a.step(hearer, burst, offered(offer))
@@ -1016,22 +1113,222 @@ def long_records(draw):
                 station = mode_a.Station(
                     draw.random() < 0.5, place, number, block(draw),
                     draw.randint(1, 4), count,
-                    draw.choice(("letters", "figures")), draw.random() < 0.5)
+                    draw.choice(("letters", "figures")), draw.random() < 0.5,
+                    own=own_identity(draw), cycles=draw.choice(CYCLES),
+                    last=draw.randrange(3), called=identity(draw))
                 helpful = helpful_burst(draw, station)
-                offer = offer_of_sort(draw, draw.randrange(6))
+                offer = offer_of_sort(draw, draw.choice(SORTS))
                 yield written_out(draw, station, helpful, offer)
                 yield written_out(draw, station, spoilt(draw, helpful), offer)
 
 
+# --- steps: calls (02, T-02) ---
+
+def near_own_blocks(own):
+    """The call blocks of an identity, and bursts that a wrong rule may take for
+    one of them."""
+    one, two, three, four = own
+    return [
+        (one, RQ, two), (three, four, RQ),
+        # Those of three-block calls; the signals changed round; all at once.
+        (RQ, three, four), (two, RQ, one), (four, three, RQ), (three, RQ, four),
+        (one, two, RQ), (one, RQ, four), (three, two, RQ),
+        # A word short, or another in the place of RQ.
+        (one, RQ, 0), (0, RQ, two), (one, 0, two), (three, four, 0),
+        (three, 0, RQ), (0, four, RQ), (one, ALPHA, two), (one, two, BETA),
+        (one, RQ, RQ), (RQ, RQ, two), (three, RQ, RQ), (RQ, four, RQ)]
+
+
+def one_other(draw, block):
+    """The burst with one word that is another: damaged, with bit 7 set, or
+    another letter of table 3a."""
+    words = list(block)
+    index = draw.randrange(3)
+    words[index] = draw.choice((draw.choice(MUTILATED), words[index] | 128,
+                                draw.choice([word for word in IDENTITY_SIGNALS
+                                             if word != words[index]])))
+    return tuple(words)
+
+
+def standby_records(draw):
+    """Stand-by hears its call blocks, and what is nearly one of them."""
+    place = programs.PLACES.index(STANDBY)
+
+    def stood(own, burst, offer, **fields):
+        return record(draw, draw.randrange(2), place, draw.randrange(2),
+                      draw.choice((0, 0, 0, 0, 0, 1, 31, 32)), burst, offer, own=own,
+                      **fields)
+
+    for last in range(3):
+        for cycles in CYCLES:
+            for sort in SORTS:
+                own = identity(draw)
+                blocks = near_own_blocks(own)
+                for burst in blocks[:2] + [
+                        draw.choice(blocks[2:]), one_other(draw, blocks[0]),
+                        one_other(draw, blocks[1]), any_burst(draw)]:
+                    yield stood(own, burst, offer_of_sort(draw, sort), last=last,
+                                cycles=cycles)
+    # A call that could be placed, and one that is heard or half heard.
+    for last in range(3):
+        for _ in range(30):
+            own = identity(draw)
+            for burst in near_own_blocks(own)[:2]:
+                yield stood(own, burst, offer_of_sort(draw, CALL), last=last,
+                            cycles=0)
+    for last in range(3):
+        for _ in range(4):
+            own = identity(draw)
+            for burst in near_own_blocks(own):
+                yield stood(own, burst, NOTHING_OFFERED, last=last)
+    # Each word at each place of the own identity, with either of its blocks to
+    # complete the call; and two that are no identity, of which the first has two
+    # equal blocks.
+    for word in WORDS:
+        for index in range(4):
+            own = list(identity(draw))
+            own[index] = word
+            for number in (1, 2):
+                yield stood(own, mode_a.call_block(own, number), NOTHING_OFFERED,
+                            last=3 - number)
+    for own in ((71, RQ, 71, RQ), mode_a.NO_IDENTITY):
+        for number in (1, 2):
+            for last in range(3):
+                yield stood(own, mode_a.call_block(own, number), NOTHING_OFFERED,
+                            last=last)
+    # Each word of the signals called, where the call is placed and elsewhere.
+    for word in WORDS:
+        for index in range(4):
+            called = list(identity(draw))
+            called[index] = word
+            yield stood(identity(draw), (0, 0, 0), call_offer(called), cycles=0)
+            yield record(draw, draw.randrange(2), draw.randrange(9),
+                         draw.randrange(2), draw.choice((0, 31, 32)),
+                         any_burst(draw), call_offer(called))
+
+
+def calling_records(draw):
+    """Calling: each answer, and counters on both sides of their limits."""
+    place = programs.PLACES.index(CALLING)
+
+    def calls(burst, offer, **fields):
+        called = identity(draw)
+        if draw.random() < 0.1:
+            called = draw.choices(WORDS, k=4)
+        return record(draw, draw.randrange(2), place, draw.randrange(2),
+                      draw.choice((0, 0, 0, 0, 0, 1, 31, 32)), burst, offer,
+                      called=called, **fields)
+
+    for last in 2 * (0, 1, 2):
+        for sent in CYCLES:
+            for sort in SORTS:
+                for first in (CS1, CS2, CS3, draw.choice(MUTILATED),
+                              draw.choice((RQ, ALPHA, BETA, 71, 128 + CS1))):
+                    rest = draw.choice(((0, 0), tuple(draw.choices(WORDS, k=2))))
+                    yield calls((first,) + rest, offer_of_sort(draw, sort),
+                                last=last, cycles=sent)
+    # Each word first, and each number of bursts sent.
+    for word in WORDS:
+        for last in range(3):
+            yield calls((word, 0, 0), offer_of_sort(draw, TEXT), last=last,
+                        cycles=draw.choice((1, 2, 127)))
+        for first in (CS1, CS2, CS3, 0):
+            yield calls(single(first), offer_of_sort(draw, TEXT), cycles=word)
+
+
+def caller_offer(draw, station, called):
+    """What the caller offers: the call while it stands by, then text, overs and
+    at last the end.  A call is offered now and then while the circuit stands."""
+    if station.place == STANDBY:
+        return call_offer(called)
+    sort = draw.choice((NO_OFFER, TEXT, TEXT, TEXT, TEXT, OVER, OVER, CALL))
+    return offer_of_sort(draw, END if draw.random() < 0.1 else sort)
+
+
+def call_circuit_records(draw, most, chance):
+    """Steps of a caller and the station that it calls, in turn, from Stand-by on:
+    the call, the circuit that it leads to, its end, and the next call, over a
+    path with damage.  One that is Lost begins anew at Stand-by."""
+    names = identity(draw), identity(draw)
+    hearer, sender = (mode_a.standing_by(name) for name in names)
+    burst = mode_a.SILENCE
+    for number in range(most):
+        if number % 2 == 0:
+            offer = caller_offer(draw, hearer, names[1])
+        else:
+            offer = offer_of_sort(draw, draw.choice((NO_OFFER, TEXT, TEXT, OVER)))
+        burst = tuple(damaged(draw, burst, chance, MUTILATED))
+        yield written_out(draw, hearer, burst, offer)
+        answer = mode_a.step(hearer, burst, offered(offer))
+        station = answer.station
+        if station.place == LOST:
+            station = mode_a.standing_by(names[number % 2])
+        hearer, sender, burst = sender, station, answer.burst
+
+
+def unheard_records(draw, most):
+    """Steps of a caller whom nobody hears: 128 call bursts, the wait of 128
+    steps, and the next call."""
+    station = mode_a.standing_by(identity(draw))
+    called = identity(draw)
+    for _ in range(most):
+        # Two control signals in succession would complete the call.
+        burst = spoilt(draw, mode_a.SILENCE)
+        if station.last == 0 and draw.random() < 0.1:
+            burst = single(draw.choice((CS1, CS2)))
+        offer = caller_offer(draw, station, called)
+        yield written_out(draw, station, burst, offer)
+        station = mode_a.step(station, burst, offered(offer)).station
+
+
+def crossed_records(draw, most):
+    """Steps of one station at Stand-by or Calling, each from where the step
+    before left it: its call blocks in any order, with anything between them,
+    and control signals in any order."""
+    station = mode_a.standing_by(identity(draw))
+    for _ in range(most):
+        sort = NO_OFFER
+        if station.place == CALLING:
+            burst = draw.choice((single(CS1), single(CS2), single(CS1),
+                                 single(CS2), any_burst(draw), single(CS3)))
+            sort = draw.choice(SORTS[:BAD_CALL])
+        else:
+            blocks = near_own_blocks(station.own)
+            burst = draw.choice(blocks[:2] * 4 + [draw.choice(blocks),
+                                                  any_burst(draw)])
+            if draw.random() < 0.1:
+                sort = draw.choice(SORTS[:BAD_CALL])
+        offer = offer_of_sort(draw, sort)
+        answer = mode_a.step(station, burst, offered(offer))
+        yield written_out(draw, station, burst, offer)
+        if isinstance(answer, Refused):
+            continue
+        station = answer.station
+        if station.place not in (STANDBY, CALLING):
+            # Back to where calls are heard, by a circuit that ends at once.
+            station = mode_a.at(station, STANDBY, cycles=draw.choice((0, 0, 3)))
+
+
+def all_call_records(draw):
+    yield from standby_records(draw)
+    yield from calling_records(draw)
+    for chance in (0, 0, 0, 0.02, 0.05, 0.1, 0.2, 0.3):
+        for _ in range(3):
+            yield from call_circuit_records(draw, 120, chance)
+    for _ in range(3):
+        yield from unheard_records(draw, 270)
+    for _ in range(40):
+        yield from crossed_records(draw, 40)
+
+
 def steps_records(draw):
-    """All the records, at least 200,000."""
+    """All the records but those of calls, at least 200,000."""
     yield from long_records(draw)
-    nothing = (0, 0, 0, 0)
     # Each place with each kind of burst, each sort of offer, each count.
-    for _ in range(17):
-        for place in range(8):
+    for _ in range(9):
+        for place in range(9):
             for kind in range(12):
-                for sort in range(6):
+                for sort in SORTS:
                     for role in range(2):
                         for number in range(2):
                             for count in (0, 31, draw.choice((1, 15, 29, 30)),
@@ -1040,7 +1337,7 @@ def steps_records(draw):
                                              burst_of_kind(draw, kind),
                                              offer_of_sort(draw, sort))
     # Each of the 256 words at each place in the burst, at each place.
-    for place in range(8):
+    for place in range(9):
         for word in WORDS:
             for index in range(3):
                 for role in range(2):
@@ -1049,7 +1346,7 @@ def steps_records(draw):
                     burst = list(burst)
                     burst[index] = word
                     yield record(draw, role, place, draw.randrange(2), 0, burst,
-                                 nothing)
+                                 NOTHING_OFFERED)
     # The over: all blocks of a few words, from each case, with + and without.
     few = (PLUS, QUERY, BETA, FIGURES, LETTERS, CS2, 71, ALPHA, 0)
     for one in few:
@@ -1057,60 +1354,75 @@ def steps_records(draw):
             for three in few:
                 for case in range(2):
                     for plus in range(2):
-                        for sort in (0, 1, 3, 4):
+                        for sort in (NO_OFFER, TEXT, OVER, END):
                             yield record(draw, draw.randrange(2), 4,
                                          draw.randrange(2), draw.choice((0, 31)),
                                          (one, two, three),
                                          offer_of_sort(draw, sort),
                                          case=case, plus=plus)
     # Each count and each total with each place.
-    for place in range(8):
+    for place in range(9):
         for value in WORDS:
-            yield record(draw, 0, place, 1, value, any_burst(draw), nothing)
+            yield record(draw, 0, place, 1, value, any_burst(draw),
+                         NOTHING_OFFERED)
             yield record(draw, 1, place, 0, 0, any_burst(draw),
-                         offer_of_sort(draw, 1), total=value)
+                         offer_of_sort(draw, TEXT), total=value)
     # Each word held, each word offered, at Sending and elsewhere.
     for word in WORDS:
         for index in range(3):
             words = draw.choices(IN_BLOCK, k=3)
             words[index] = word
-            yield record(draw, 0, 0, 1, 0, single(CS2), nothing, held=words)
-            yield record(draw, 0, draw.randrange(8), 1, 0, single(CS1),
-                         (1,) + tuple(words), held=words)
-            yield record(draw, 1, 2, 0, 0, single(CS2), (1,) + tuple(words))
+            text_offer = (1,) + tuple(words) + mode_a.NO_IDENTITY
+            yield record(draw, 0, 0, 1, 0, single(CS2), NOTHING_OFFERED,
+                         held=words)
+            yield record(draw, 0, draw.randrange(9), 1, 0, single(CS1),
+                         text_offer, held=words)
+            yield record(draw, 1, 2, 0, 0, single(CS2), text_offer)
     # Records of any bytes, with the count below 32 in half of them.
     for number in range(30000):
-        any_bytes = bytearray(draw.choices(WORDS, k=17))
+        any_bytes = bytearray(draw.randbytes(programs.RECORD))
         if number % 2 == 0:
             any_bytes[7] %= 32
             any_bytes[3:6] = bytes(draw.choices(IN_BLOCK, k=3))
+            any_bytes[28:32] = bytes(draw.choices(IDENTITY_SIGNALS, k=4))
         yield bytes(any_bytes)
 
 
 def stepped_in(size):
     """Records of which the lines come to `size` bytes."""
-    accepted = bytes([1, 4, 1, 0, 0, 0, 0, 0, 0, 0, 71, 71, 71] + [0] * 4)
-    longer = with_byte(accepted, 10, 116)
-    few, more = made_up(size, len(programs.steps(accepted)[0]))
-    return accepted * few + longer * more
+    # A printed word over 99 takes a byte more; there are three.
+    accepted = bytes([1, 4, 1, 0, 0, 0, 0, 0, 0, 0, 71, 71, 71] + [0] * 19)
+    small = len(programs.steps(accepted)[0])
+    number = size // small
+    each, more = divmod(size - number * small, number)
+    assert each < 3
+    out = b""
+    for index in range(number):
+        longer = each + (index < more)
+        out += accepted[:10] + bytes([116] * longer + [71] * (3 - longer)
+                                     ) + accepted[13:]
+    return out
 
 
 def steps_cases(draw):
+    calls = list(all_call_records(draw))
     records = list(steps_records(draw))
     out = [quickly("empty", b""), slowly("8 records", b"".join(records[:8])),
-           in_pieces("200 records", b"".join(records[:200]))]
+           in_pieces("200 records", b"".join(records[:200])),
+           quickly("calls", b"".join(calls))]
     out.extend(with_words(records[0]))
     for size in OUTPUT_SIZES:
         out.append(from_file("%d bytes written" % size, stepped_in(size)))
     for size in (BLOCK - 1, BLOCK, BLOCK + 1, 2 * BLOCK):
         out.append(from_file("%d bytes of records" % size,
-                             b"".join(records)[:size]))
-    for length in (1, 16, 18, 33, 34, 35):
+                             b"".join(records[:300])[:size]))
+    # 17 is the length up to the offer's text.
+    for length in (1, 17, 31, 33, 63, 64, 65):
         out.append(quickly("cut to %d bytes" % length,
                            b"".join(records[:3])[:length]))
     for start in range(0, len(records), STEPS_IN_A_CASE):
         part = b"".join(records[start:start + STEPS_IN_A_CASE])
-        tail = bytes(draw.choices(WORDS, k=draw.randrange(17)))
+        tail = bytes(draw.choices(WORDS, k=draw.randrange(programs.RECORD)))
         out.append(quickly("records from %d on" % start, part + tail))
     return out
 
@@ -1413,7 +1725,24 @@ def receive_records(draw):
         yield b"R" + bytes(fields)
 
 
-KINDS = b"EPSMR"
+def identity_records(draw):
+    """I records (02, T-02)."""
+    # Each word at each place, and with another one outside behind it.
+    for word in WORDS:
+        for index in range(4):
+            words = list(identity(draw))
+            words[index] = word
+            yield b"I" + bytes(words)
+            for second in range(index + 1, 4):
+                words[second] = draw.choice(NEARLY_IN_IDENTITY)
+            yield b"I" + bytes(words)
+    for _ in range(500):
+        yield b"I" + bytes(identity(draw))
+        yield b"I" + bytes(outside(draw, identity(draw)))
+        yield b"I" + bytes(draw.choices(WORDS, k=4))
+
+
+KINDS = b"EPSMRI"
 
 
 def hostile_tails(draw):
@@ -1444,7 +1773,8 @@ def hostile_tails(draw):
         whole = b"S" + low_first(5, 4) + low_first(length, 2)
         yield "length %d" % length, whole + bytes([71]) * length
     for whole in (slot_record(5, [71] * 4), b"M" + bytes([71]),
-                  receive_record(draw, run=3, last=1, word=ALPHA)):
+                  receive_record(draw, run=3, last=1, word=ALPHA),
+                  b"I" + bytes([71] * 4)):
         for length in range(1, len(whole)):
             yield "record cut to %d" % length, whole[:length]
 
@@ -1457,7 +1787,7 @@ def call_length(data, first):
         return 6 + int.from_bytes(data[first + 4:first + 6], "little")
     if kind == b"S":
         return 7 + int.from_bytes(data[first + 5:first + 7], "little")
-    return {b"M": 2, b"R": 11}.get(kind, 0)
+    return {b"M": 2, b"R": 11, b"I": 5}.get(kind, 0)
 
 
 def call_records(data):
@@ -1476,7 +1806,8 @@ def calls_at_borders():
     """Records across the borders of blocks, each border another byte of the
     record; bad records that begin or are cut there."""
     out = []
-    for whole in (text_record(b"E", 0, 5, b"A1A"), slot_record(40, [71, 86])):
+    for whole in (text_record(b"E", 0, 5, b"A1A"), slot_record(40, [71, 86]),
+                  b"I" + bytes([71, 86, 71, 101])):
         data = b""
         for number in range(1, len(whole) + 2):
             first = BLOCK * number - number
@@ -1506,7 +1837,7 @@ def group_calls():
 def calls_cases(draw):
     records = (list(encode_records(draw)) + list(print_records(draw))
                + list(slot_records(draw)) + list(meaning_records())
-               + list(receive_records(draw)))
+               + list(receive_records(draw)) + list(identity_records(draw)))
     draw.shuffle(records)
     short = [one for one in records if len(one) < 40]
     out = [quickly("empty", b""), slowly("12 records", b"".join(short[:12])),
@@ -1558,7 +1889,7 @@ def spoken():
     return [plain(heard[:begun])] + [b"%d " % word for word in heard[begun:44]]
 
 
-STEP_RECORD = bytes([1, 4, 1, 0, 0, 0, 0, 31, 0, 0, 116, 86, 51, 0, 0, 0, 0])
+STEP_RECORD = bytes([1, 4, 1, 0, 0, 0, 0, 31, 0, 0, 116, 86, 51] + [0] * 19)
 
 CONVERSATIONS = {
     # the header comes before anything is read
@@ -1566,7 +1897,8 @@ CONVERSATIONS = {
               bytes([114]), bytes([51, 15, 51, CS1, 0, 0])]],
     "steps": [[STEP_RECORD, STEP_RECORD + STEP_RECORD[:5], STEP_RECORD[5:]]],
     "calls": [[b"MV", text_record(b"E", 0, 4, b"A1"), slot_record(36, [86]),
-               b"R" + bytes([0, 3, 1, 0, 0, 0, 0, 0, 0, 15]), b"M", b"eMA", b"?"]],
+               b"R" + bytes([0, 3, 1, 0, 0, 0, 0, 0, 0, 15]), b"I" + bytes([71] * 4),
+               b"M", b"eMA", b"?"]],
     "receive": [spoken(), spoken() + [b"256 "]],
     "encode": [[b"A" * (text.MOST_CHARACTERS + 1)]],
     "print": [[b"71 ", b"7x "], [b"71 " * (text.MOST_SIGNALS + 1)]],

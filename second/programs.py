@@ -178,13 +178,15 @@ def receive(data):
     return write_words(printed), told
 
 
-# --- steps: records of 17 bytes, one step of a station written out ---
+# --- steps: records of 32 bytes, one step of a station written out ---
 
-RECORD = 17
+RECORD = 32
 PLACES = (mode_a.SENDING, mode_a.TURNING, mode_a.OPENING, mode_a.ENDING,
-          mode_a.RECEIVING, mode_a.ASKING, mode_a.STANDBY, mode_a.LOST)
+          mode_a.RECEIVING, mode_a.ASKING, mode_a.STANDBY, mode_a.LOST,
+          mode_a.CALLING)
 NUMBERED = (mode_a.SENDING, mode_a.TURNING, mode_a.ENDING, mode_a.RECEIVING)
-OFFERS = ("nothing", "text", "over", "end")
+COUNTS_CYCLES = (mode_a.STANDBY, mode_a.CALLING)
+OFFERS = ("nothing", "text", "over", "end", "call")
 
 
 def case_of(byte):
@@ -194,23 +196,35 @@ def case_of(byte):
 def read_step(record):
     """The station, burst and offer of a record.  A field that a place does not
     carry is ignored."""
-    place = PLACES[record[1] % 8]
+    place = PLACES[record[1] % 9]
     number = 0
     held = mode_a.NO_BLOCK
     total = 0
+    cycles = last = 0
+    called = mode_a.NO_IDENTITY
+    other_end = None
     if place in NUMBERED:
         number = 1 if record[2] % 2 == 1 else 2
     if place == mode_a.SENDING:
         held = tuple(record[3:6])
     if place == mode_a.ENDING:
         total = record[6]
+    if place in COUNTS_CYCLES:
+        cycles = record[17]
+        last = record[18] % 3
+    if place == mode_a.CALLING:
+        called = tuple(record[3:7])
+    if record[23] % 2 == 1:
+        other_end = tuple(record[24:28])
     station = mode_a.Station(
         master=record[0] % 2 == 0, place=place, number=number, held=held,
         total=total, count=record[7], case=case_of(record[8]),
-        plus=record[9] % 2 == 1)
+        plus=record[9] % 2 == 1, own=tuple(record[19:23]), other_end=other_end,
+        cycles=cycles, last=last, called=called)
     burst = tuple(record[10:13])
-    offer = mode_a.Offer(OFFERS[record[13] % 4], tuple(record[14:17]))
-    return station, burst, offer
+    kind = OFFERS[record[13] % 5]
+    words = record[28:32] if kind == "call" else record[14:17]
+    return station, burst, mode_a.Offer(kind, tuple(words))
 
 
 def step_line(answer):
@@ -218,9 +232,15 @@ def step_line(answer):
         return "refused %d %d\n" % (answer.number, answer.beside)
     s = answer.station
     printed = answer.printed + (0,) * (3 - len(answer.printed))
-    return ("%s %d %d %d %d %d %d %s %d | %d %d %d | %d %d %d | %d\n" % (
-        (s.place, s.number) + s.held + (s.total, s.count, s.case, s.plus)
-        + answer.burst + printed + (answer.taken,)))
+    role = "master" if s.master else "slave"
+    other_end = ("nobody",) + mode_a.NO_IDENTITY
+    if s.other_end is not None:
+        other_end = ("four",) + s.other_end
+    return ("%s %d %d %d %d %d %d %s %d | %d %d %d | %d %d %d | %d "
+            "| %s %d %d %d %d %d %d %s %d %d %d %d\n" % (
+                (s.place, s.number) + s.held + (s.total, s.count, s.case, s.plus)
+                + answer.burst + printed + (answer.taken,)
+                + (role, s.cycles, s.last) + s.called + other_end))
 
 
 def steps(data):
@@ -352,6 +372,15 @@ def receive_call(data, place):
     return receiver_line(answer), place + 10
 
 
+def standing_by_call(data, place):
+    """An `I` record: a station standing by, with this identity of its own."""
+    answer = mode_a.standing_by(cut(data, place, 4))
+    line = "ok\n"
+    if isinstance(answer, Refused):
+        line = "refused %d %d\n" % (answer.number, answer.beside)
+    return line, place + 4
+
+
 def calls(data):
     lines = []
     told = None
@@ -369,6 +398,8 @@ def calls(data):
                 line, behind = meaning_call(data, place + 1)
             elif kind == b"R":
                 line, behind = receive_call(data, place + 1)
+            elif kind == b"I":
+                line, behind = standing_by_call(data, place + 1)
             else:
                 raise BadRecord("no such kind")
             lines.append(line)

@@ -1,8 +1,8 @@
-"""Refusals by number (paper 01, "Numbers returned")."""
+"""Refusals by number (paper 01, "Numbers returned"; paper 02)."""
 
 from collections import namedtuple
 
-# number: 1 to 7 of 01's table.  beside: 01's "Answer beside it".
+# number: 1 to 7 of 01's table, 8 of 02, T-02.  beside: 01's "Answer beside it".
 #
 #   1  encoding: a byte without a signal                 index of the first
 #   2  encoding, printing: lent room too short           room needed
@@ -11,9 +11,11 @@ from collections import namedtuple
 #   5  encoding: over 4,096 characters                   4,096
 #   6  mode B: slot past the last                        number of slots
 #   7  over 8,192 signals for mode B or printing         8,192
+#   8  an identity signal outside table 3a               index of the first
 #
 # Of 1: a to z are taken as the capitals (02, T-01), so they are not refused.
 #
 # Each call tests for them in 01's order: "encoding 5, 1, 2; printing 7, 3, 2;
-# mode A step 4, 3; mode B slot 7, 3, 6".
+# mode A step 4, 3; mode B slot 7, 3, 6".  The step tests for 8 before these (02,
+# T-02: "checked before all others at the call").
 Refused = namedtuple("Refused", "number beside")

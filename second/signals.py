@@ -1,4 +1,4 @@
-"""The seven-unit code (paper 01, "The code"; paper 001, tables 1 and 2).
+"""The seven-unit code (paper 01, "The code"; paper 001, tables 1, 2 and 3a).
 
 In quotations from 01, here and in the other modules, the Greek letters are
 spelt out.
@@ -114,3 +114,15 @@ MEANING = meanings()
 def is_traffic(word):
     """01: "These 32 are traffic signals"."""
     return 1 <= MEANING[word] <= 32
+
+
+# 001, table 3a: the letters that an identity is made of (02, T-02: "The identity
+# letters are those of table 3a").
+IDENTITY_LETTERS = "ABCDEFIKMOPQRSTUVXYZ"
+
+IDENTITY_SIGNALS = [word_of(units) for letter, _, units in TRAFFIC_ROWS
+                    if letter is not None and letter in IDENTITY_LETTERS]
+
+
+def is_identity_signal(word):
+    return word in IDENTITY_SIGNALS

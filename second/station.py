@@ -1,29 +1,45 @@
-"""One station of mode A (paper 01, "The station, mode A"; 001, 3.3 to 3.7)."""
+"""One station of mode A (paper 01, "The station, mode A"; 001, 3.3 to 3.7), and
+its calls (paper 02, T-02; 001, 3.5)."""
 
 from collections import namedtuple
 
 from refusal import Refused
 from signals import (ALPHA, BETA, CS1, CS2, CS3, FIGURES, LETTERS, PLUS, QUERY,
-                     RQ, is_traffic)
+                     RQ, is_identity_signal, is_traffic)
 
-# A station.  `count`, `case` and `plus` are carried at every place:
-#   master   True for a master, False for a slave
-#   place    one of the eight below
-#   number   1 or 2: of the block held (Sending), of the last block (Turning),
-#            under which end was taken (Ending), awaited (Receiving); else 0
-#   held     the block held at Sending; else three zeros
-#   total    how often alpha alpha alpha has been sent, at Ending; else 0
-#   count    the repetition count
-#   case     "letters" or "figures": the case of the direction this station
-#            receives.  What it sends itself does not move it.
-#   plus     True when a + was heard that a ? would make an over
+# An identity is four words.  A station without one has four zeros.
+NO_IDENTITY = (0, 0, 0, 0)
+
+# A station.  `count`, `case`, `plus`, `own` and `other_end` are carried at every
+# place:
+#   master     True for a master, False for a slave
+#   place      one of the nine below
+#   number     1 or 2: of the block held (Sending), of the last block (Turning),
+#              under which end was taken (Ending), awaited (Receiving); else 0
+#   held       the block held at Sending; else three zeros
+#   total      how often alpha alpha alpha has been sent, at Ending; else 0
+#   count      the repetition count
+#   case       "letters" or "figures": the case of the direction this station
+#              receives.  What it sends itself does not move it.
+#   plus       True when a + was heard that a ? would make an over
+#   own        its own identity, which no step changes
+#   other_end  who is at the other end: the identity called, or None for nobody
+#   cycles     at Stand-by the steps left to wait, at Calling the call bursts
+#              sent; else 0
+#   last       at Stand-by which of its own call blocks the last step heard, at
+#              Calling which of CS1 and CS2: 1 or 2, 0 for neither; else 0
+#   called     the identity called, at Calling; else four zeros
 Station = namedtuple("Station",
-                     "master place number held total count case plus")
+                     "master place number held total count case plus "
+                     "own other_end cycles last called",
+                     defaults=(NO_IDENTITY, None, 0, 0, NO_IDENTITY))
 
 SENDING, TURNING, OPENING, ENDING = "sending", "turning", "opening", "ending"
 RECEIVING, ASKING, STANDBY, LOST = "receiving", "asking", "standby", "lost"
+CALLING = "calling"
 
-# An offer: kind is "nothing", "text", "over" or "end"; words matter for text.
+# An offer: kind is "nothing", "text", "over", "end" or "call"; words matter for
+# text (three) and for a call (the four of the identity).
 Offer = namedtuple("Offer", "kind words")
 NOTHING = Offer("nothing", (0, 0, 0))
 
@@ -48,6 +64,9 @@ NO_BLOCK = (0, 0, 0)
 
 MOST_COUNT = 31
 MOST_ENDS = 4
+# 02, T-02: "for at most 128 cycles", "waits 128 cycles in stand-by"
+MOST_CALL_BURSTS = 128
+CYCLES_TO_WAIT = 128
 
 
 def single(word):
@@ -63,6 +82,26 @@ def may_stand_in_block(word):
     return is_traffic(word) or word == BETA
 
 
+def first_outside(identity):
+    """The index of the first word outside table 3a, None where all stand in
+    it."""
+    for index, word in enumerate(identity):
+        if not is_identity_signal(word):
+            return index
+    return None
+
+
+def call_block(identity, number):
+    """001, 3.5.3: "in the first, second and third character places
+    respectively", in call block 1 "the first identification signal, the service
+    information signal "signal repetition" and the second identification
+    signal", in call block 2 "the third and the fourth identification signals of
+    the called station and "signal repetition""."""
+    if number == 1:
+        return (identity[0], RQ, identity[1])
+    return (identity[2], identity[3], RQ)
+
+
 def fresh_master():
     """01: "A fresh master is Opening", with "count 0, letters case and no +
     heard"."""
@@ -75,9 +114,26 @@ def fresh_slave():
     return Station(False, RECEIVING, 1, NO_BLOCK, 0, 0, "letters", False)
 
 
-# --- Refusals 4 and 3, judged at every place and whatever is heard ---
+def standing_by(identity):
+    """A station at Stand-by that can be called by this identity, with nothing to
+    wait and nothing heard.  Answers Station or Refused."""
+    # 02, T-02: "Refusals: 8, an identity signal outside table 3a"
+    index = first_outside(identity)
+    if index is not None:
+        return Refused(8, index)
+    return Station(False, STANDBY, 0, NO_BLOCK, 0, 0, "letters", False,
+                   own=tuple(identity))
+
+
+# --- Refusals 8, 4 and 3, judged at every place and whatever is heard ---
 
 def refusal_of(station, offer):
+    # 02, T-02: "8, an identity signal outside table 3a, checked before all others
+    # at the call"
+    if offer.kind == "call":
+        index = first_outside(offer.words)
+        if index is not None:
+            return Refused(8, index)
     # "Order: ... mode A step 4, 3"
     if station.count > MOST_COUNT:
         return Refused(4, 0)
@@ -96,15 +152,20 @@ def refusal_of(station, offer):
 
 # --- The rows, one for each place ---
 
-def at(station, place, number=0, held=NO_BLOCK, total=0):
-    """The station moved to a place, with what that place carries."""
+def at(station, place, number=0, held=NO_BLOCK, total=0, cycles=0, last=0,
+       called=NO_IDENTITY):
+    """The station moved to a place, with what that place carries.  With the move
+    to Stand-by nobody is at the other end any more."""
+    other_end = None if place == STANDBY else station.other_end
     return Station(station.master, place, number, held, total, station.count,
-                   station.case, station.plus)
+                   station.case, station.plus, station.own, other_end, cycles,
+                   last, called)
 
 
 def take(station, offer, number):
     """01: "Text gives that block, nothing gives beta beta beta, over gives
-    figures + ?, end gives alpha alpha alpha and place Ending"."""
+    figures + ?, end gives alpha alpha alpha and place Ending".  A call, which
+    only Stand-by takes, gives beta beta beta too and is not taken."""
     if offer.kind == "end":
         ending = at(station, ENDING, number, total=1)
         return Answer(ending, ALPHAS, (), True)
@@ -114,7 +175,8 @@ def take(station, offer, number):
         block = OVER
     else:
         block = BETAS
-    return Answer(at(station, SENDING, number, held=block), block, (), True)
+    return Answer(at(station, SENDING, number, held=block), block, (),
+                  offer.kind != "call")
 
 
 def sending(station, burst, offer):
@@ -251,9 +313,72 @@ def asking(station, burst, offer):
     return Row(Answer(station, single(CS3), (), False), False)
 
 
-def silent(station, burst, offer):
-    # "Stand-by and Lost: silent for good, no offer taken."
+def own_call_block(station, burst):
+    """Which of its own call blocks the burst is: 1 or 2, 0 for neither.  A
+    station whose own identity has a word outside table 3a hears no call."""
+    if first_outside(station.own) is None:
+        for number in (1, 2):
+            if burst == call_block(station.own, number):
+                return number
+    return 0
+
+
+def begin_call(station):
+    """What is forgotten where a call is answered or placed: a circuit starts
+    with letters case and no + heard, and nobody is at the other end yet."""
+    return station._replace(case="letters", plus=False, other_end=None)
+
+
+def standby(station, burst, offer):
+    # 02, T-02: "01's Stand-by row is amended: it hears and places calls."
+    heard = own_call_block(station, burst)
+    if heard != 0 and station.last == other(heard):
+        # "The slave answers CS1 after both blocks in succession."  In either
+        # order, and while it waits too; the offer is not taken.
+        answering = begin_call(at(station, RECEIVING, 1)._replace(master=False))
+        return Row(Answer(answering, single(CS1), (), False), False)
+    if offer.kind == "call" and station.cycles == 0:
+        # "the master sends call blocks 1 and 2 in turn": the first goes out
+        # here, and the offer is taken.
+        identity = tuple(offer.words)
+        calling_now = begin_call(at(station, CALLING, cycles=1, called=identity)
+                                 ._replace(master=True))
+        return Row(Answer(calling_now, call_block(identity, 1), (), True), False)
+    # Silent, "no offer taken".  One step less is left to wait.
+    left = max(station.cycles - 1, 0)
+    return Row(Answer(station._replace(cycles=left, last=heard), SILENCE, (),
+                      False), False)
+
+
+def lost(station, burst, offer):
+    # "Lost: silent for good, no offer taken."
     return Row(Answer(station, SILENCE, (), False), False)
+
+
+def calling(station, burst, offer):
+    # It reads the first word.
+    first = burst[0]
+    heard = 0
+    if first == CS1:
+        heard = 1
+    if first == CS2:
+        heard = 2
+    if heard != 0 and station.last == heard:
+        # 02, T-02: "goes on to traffic on two successive identical CS1 or CS2".
+        # As at Opening: the offer is taken under that number.
+        reached = station._replace(other_end=station.called)
+        return Row(take(reached, offer, heard), False)
+    if first == CS3 or station.cycles >= MOST_CALL_BURSTS:
+        # "on CS3 waits 128 cycles in stand-by"; 001, 3.5.4: "if the circuit has
+        # not been established within 128 cycles" too.
+        waiting = at(station, STANDBY, cycles=CYCLES_TO_WAIT)
+        return Row(Answer(waiting, SILENCE, (), False), False)
+    # "call blocks 1 and 2 in turn for at most 128 cycles": the first burst, the
+    # third and so on are block 1.
+    sent = station.cycles + 1
+    block = call_block(station.called, 1 if sent % 2 == 1 else 2)
+    again = at(station, CALLING, cycles=sent, last=heard, called=station.called)
+    return Row(Answer(again, block, (), False), False)
 
 
 ROWS = {
@@ -263,8 +388,9 @@ ROWS = {
     ENDING: ending,
     RECEIVING: receiving,
     ASKING: asking,
-    STANDBY: silent,
-    LOST: silent,
+    STANDBY: standby,
+    LOST: lost,
+    CALLING: calling,
 }
 
 COUNTING = (SENDING, TURNING, OPENING, RECEIVING, ASKING)
@@ -293,6 +419,6 @@ def step(station, burst, offer):
     count = station.count + 1
     if count == MOST_COUNT + 1:
         # "The 32nd makes it Lost and silent, with no offer taken."
-        lost = at(station, LOST)._replace(count=0)
-        return Answer(lost, SILENCE, (), False)
+        lost_now = at(station, LOST)._replace(count=0)
+        return Answer(lost_now, SILENCE, (), False)
     return answer._replace(station=answer.station._replace(count=count))

@@ -1,6 +1,6 @@
 #!/usr/bin/env python3
 """Tests of the second program by itself: paper 01's worked examples, the
-corners of its rules, and what demand 3 asks of two stations; that
+corners of its rules and of 02's, and what demand 3 asks of two stations; that
 second/compare does not pass where there is nothing to compare, that its inputs
 hold what they are there for, and that they tell each of the faults of
 second/faults.py.  No proved program is run here; second/compare does that.
@@ -31,8 +31,8 @@ from signals import (  # noqa: E402
     ALPHA, BETA, BLANK, CARRIAGE_RETURN, CS1, CS2, CS3, FIGURES, LETTERS,
     LINE_FEED, PLUS, QUERY, RQ, SPACE)
 from station import (  # noqa: E402
-    ASKING, ENDING, LOST, NOTHING, OPENING, RECEIVING, SENDING, STANDBY,
-    TURNING, Offer, Station)
+    ASKING, CALLING, ENDING, LOST, NO_IDENTITY, NOTHING, OPENING, RECEIVING,
+    SENDING, STANDBY, TURNING, Offer, Station)
 
 A = signals.traffic_word(1)
 D = signals.traffic_word(4)
@@ -51,9 +51,15 @@ def text_offer(*words):
     return Offer("text", words)
 
 
+def call_offer(*words):
+    return Offer("call", words)
+
+
 def at(place, number=0, held=(0, 0, 0), total=0, count=0, case="letters",
-       plus=False, master=True):
-    return Station(master, place, number, held, total, count, case, plus)
+       plus=False, master=True, own=NO_IDENTITY, other_end=None, cycles=0, last=0,
+       called=NO_IDENTITY):
+    return Station(master, place, number, held, total, count, case, plus, own,
+                   other_end, cycles, last, called)
 
 
 def answer(station, *burst, offer=NOTHING):
@@ -68,6 +74,9 @@ def shown(result):
 
 RQ3 = (RQ, RQ, RQ)
 TURN = (BETA, ALPHA, BETA)
+SILENCE = (0, 0, 0)
+PLACES = (SENDING, TURNING, OPENING, ENDING, RECEIVING, ASKING, STANDBY, LOST,
+          CALLING)
 
 
 # --- The code ---
@@ -400,8 +409,9 @@ def turning_by_role():
 
 def station_refusals():
     bad = text_offer(A, RQ, 0)
-    for place in (SENDING, TURNING, OPENING, RECEIVING, ASKING, STANDBY, LOST):
-        station = at(place, 1, (A, A, A) if place == SENDING else (0, 0, 0))
+    for place in PLACES:
+        station = at(place, 1, (A, A, A) if place == SENDING else (0, 0, 0),
+                     total=1)
         assert answer(station, A, A, A, offer=bad) == Refused(3, 1)
         over = station._replace(count=32)
         assert answer(over, A, A, A, offer=bad) == Refused(4, 0)
@@ -492,6 +502,501 @@ def check_kinds(burst):
         for place in (STANDBY, LOST):
             assert answer(at(place, count=7), *burst, offer=END) == mode_a.Answer(
                 at(place), (0, 0, 0), (), False)
+    # Three words of these are enough for the rows of calls.
+    if {burst[1], burst[2]} <= {0, A, RQ}:
+        check_call_kinds(burst, asked)
+
+
+def check_call_kinds(burst, asked):
+    """The rows of 02, T-02.  The own call blocks are E RQ A and E A RQ."""
+    own = (E, A, E, A)
+    heard = {(E, RQ, A): 1, (E, A, RQ): 2}.get(burst, 0)
+    for last in (0, 1, 2):
+        stood = answer(at(STANDBY, own=own, cycles=3, last=last), *burst)
+        if heard and last == 3 - heard:
+            assert stood == mode_a.Answer(
+                at(RECEIVING, 1, master=False, own=own), (CS1, 0, 0), (), False)
+        else:
+            assert stood == mode_a.Answer(
+                at(STANDBY, own=own, cycles=2, last=heard), SILENCE, (), False)
+        called = answer(at(CALLING, called=own, cycles=3, last=last), *burst)
+        if asked and last == asked:
+            expected = (SENDING, asked, (BETA,) * 3)
+        else:
+            expected = ((STANDBY, 0, SILENCE) if burst[0] == CS3
+                        else (CALLING, 0, (E, A, RQ)))
+        assert shown(called)[:3] == expected
+        if expected[0] == CALLING:
+            assert called.station == at(CALLING, called=own, cycles=4, last=asked)
+
+
+# --- Calls (02, T-02) ---
+
+def spelt(letters):
+    """The words of capitals."""
+    return tuple(signals.traffic_word(1 + "ABCDEFGHIJKLMNOPQRSTUVWXYZ".index(one))
+                 for one in letters)
+
+
+OWN, FAR = spelt("VICT"), spelt("QRST")
+OWN_1, OWN_2 = (OWN[0], RQ, OWN[1]), (OWN[2], OWN[3], RQ)
+FAR_1, FAR_2 = (FAR[0], RQ, FAR[1]), (FAR[2], FAR[3], RQ)
+# 001, table 3b: the letters in the order of their numbers.
+TABLE_3B = "VXQKMPCYFSTBUEOIRZDA"
+
+
+def stood(*bursts, station=None, offer=NOTHING):
+    """The last answer of a station that stands by and hears these one after
+    another; the answers before it are silent."""
+    station = station or mode_a.standing_by(OWN)
+    for burst in bursts[:-1]:
+        result = answer(station, *burst, offer=offer)
+        assert (result.station.place, result.burst, result.printed,
+                result.taken) == (STANDBY, SILENCE, (), False)
+        station = result.station
+    return answer(station, *bursts[-1], offer=offer)
+
+
+def is_answered(*bursts, station=None):
+    result = stood(*bursts, station=station)
+    assert result.station.place in (STANDBY, RECEIVING)
+    return result.station.place == RECEIVING
+
+
+def table_three_a():
+    assert sorted(TABLE_3B) == list(signals.IDENTITY_LETTERS)
+    within = set(spelt(TABLE_3B))
+    assert len(within) == 20 == len(signals.IDENTITY_SIGNALS)
+    for word in range(256):
+        assert signals.is_identity_signal(word) == (word in within)
+    # "Letters outside are G, H, J, L, N and W", and all that is no letter: so no
+    # control or service signal.
+    assert set(TRAFFIC) - within == set(spelt("GHJLNW")) | {
+        CARRIAGE_RETURN, LINE_FEED, LETTERS, FIGURES, SPACE, BLANK}
+    assert not within & {CS1, CS2, CS3, RQ, ALPHA, BETA}
+
+
+def standing_by_or_refused():
+    assert mode_a.standing_by(OWN) == at(STANDBY, master=False, own=OWN)
+    for word in range(256):
+        for index in range(4):
+            words = list(OWN)
+            words[index] = word
+            result = mode_a.standing_by(words)
+            if word in spelt(TABLE_3B):
+                assert result == at(STANDBY, master=False, own=tuple(words))
+            else:
+                assert result == Refused(8, index)
+                # "the index of the first"
+                words[3] = 0
+                assert mode_a.standing_by(words) == Refused(8, index)
+    assert mode_a.standing_by(NO_IDENTITY) == Refused(8, 0)
+    # 01's fresh stations have none, and know nobody.
+    for fresh in (mode_a.fresh_master(), mode_a.fresh_slave()):
+        assert fresh.own == NO_IDENTITY and fresh.other_end is None
+
+
+def call_heard():
+    """02: "The slave answers CS1 after both blocks in succession"."""
+    answered = mode_a.Answer(at(RECEIVING, 1, master=False, own=OWN),
+                             (CS1, 0, 0), (), False)
+    # In either order.
+    assert stood(OWN_1, OWN_2) == stood(OWN_2, OWN_1) == answered
+    # The same block twice leaves it heard once.
+    assert stood(OWN_1, OWN_1).station == at(STANDBY, master=False, own=OWN, last=1)
+    assert stood(OWN_2, OWN_2).station == at(STANDBY, master=False, own=OWN, last=2)
+    assert stood(OWN_1, OWN_1, OWN_1, OWN_2) == answered
+    assert stood(OWN_2, OWN_2, OWN_1) == answered
+    # Anything between starts over, damaged or not.
+    damaged = (OWN_1[0], RQ, 0)
+    for between in (SILENCE, (A, A, A), RQ3, (CS1, 0, 0), damaged, FAR_1, FAR_2,
+                    (RQ, OWN[2], OWN[3])):
+        for one, two in ((OWN_1, OWN_2), (OWN_2, OWN_1)):
+            assert not is_answered(one, between, two)
+            assert is_answered(one, between, two, one)
+            assert is_answered(between, one, two)
+    # A block is heard where all three words are right.
+    for block, first in ((OWN_2, OWN_1), (OWN_1, OWN_2)):
+        for index in range(3):
+            for word in range(256):
+                heard = list(block)
+                heard[index] = word
+                assert is_answered(first, heard) == (tuple(heard) == block)
+    # Whatever was left from before is gone: role, case, +, count, the other end,
+    # the wait.
+    for last, burst in ((1, OWN_2), (2, OWN_1)):
+        for offer in (NOTHING, OVER, END, text_offer(A, A, A), call_offer(*FAR)):
+            for wait in (0, 1, 128, 255):
+                station = at(STANDBY, own=OWN, last=last, cycles=wait, count=31,
+                             case="figures", plus=True, other_end=FAR)
+                assert answer(station, *burst, offer=offer) == answered
+    # One's own block behind no block.
+    assert not is_answered(OWN_1) and not is_answered(OWN_2)
+    # Two letters alike in all places are a call as any other.
+    alike = spelt("AAAA")
+    station = mode_a.standing_by(alike)
+    assert is_answered((A, RQ, A), (A, A, RQ), station=station)
+    assert is_answered((A, A, RQ), (A, RQ, A), station=station)
+    assert not is_answered((A, RQ, A), (A, RQ, A), station=station)
+
+
+def no_identity_hears_no_call():
+    for word in range(256):
+        for index in range(4):
+            own = list(OWN)
+            own[index] = word
+            one, two = (own[0], RQ, own[1]), (own[2], own[3], RQ)
+            for last, burst in ((1, two), (2, one)):
+                station = at(STANDBY, own=tuple(own), last=last)
+                result = answer(station, *burst)
+                if word in spelt(TABLE_3B):
+                    assert result.station.place == RECEIVING
+                else:
+                    assert result == mode_a.Answer(
+                        station._replace(last=0), SILENCE, (), False)
+    # Zeros hear nothing; nor does one that would have two equal blocks.
+    for own in (NO_IDENTITY, (A, RQ, A, RQ)):
+        for number in (1, 2):
+            for last in (0, 1, 2):
+                block = ((own[0], RQ, own[1]), (own[2], own[3], RQ))[number - 1]
+                result = answer(at(STANDBY, own=own, last=last), *block)
+                assert result.station == at(STANDBY, own=own)
+    # It may place a call.
+    result = answer(at(STANDBY), *SILENCE, offer=call_offer(*FAR))
+    assert result.station.place == CALLING and result.burst == FAR_1
+
+
+def call_placed():
+    placed = mode_a.Answer(at(CALLING, own=OWN, called=FAR, cycles=1), FAR_1, (),
+                           True)
+    offer = call_offer(*FAR)
+    for burst in (SILENCE, (A, A, A), (CS1, 0, 0), (CS2, 0, 0), (CS3, 0, 0), OWN_1,
+                  OWN_2, RQ3):
+        for master in (True, False):
+            station = at(STANDBY, own=OWN, master=master, case="figures", plus=True,
+                         count=31, other_end=OWN)
+            assert answer(station, *burst, offer=offer) == placed
+            # A call half heard is not waited for.
+            last = {OWN_1: 1, OWN_2: 2}.get(burst, 1)
+            assert answer(station._replace(last=last), *burst, offer=offer) == placed
+    # Other offers are not taken.
+    for other in (NOTHING, OVER, END, text_offer(A, A, A)):
+        station = at(STANDBY, own=OWN)
+        assert answer(station, *SILENCE, offer=other) == mode_a.Answer(
+            station, SILENCE, (), False)
+    # It may call itself, or whom it called before; nothing bars that.
+    assert answer(at(STANDBY, own=OWN), *SILENCE, offer=call_offer(*OWN)).taken
+
+
+def calls_in_turn():
+    """02: "sends call blocks 1 and 2 in turn for at most 128 cycles"."""
+    for noise in ((0, 0, 0), (A, E, A), RQ3, (ALPHA,) * 3, (128 + CS1, 0, 0)):
+        station = answer(mode_a.standing_by(OWN), *SILENCE,
+                         offer=call_offer(*FAR)).station
+        sent = [FAR_1]
+        while True:
+            result = answer(station, *noise, offer=text_offer(A, A, A))
+            assert not result.taken and result.printed == ()
+            assert result.station.count == 0
+            station = result.station
+            if station.place != CALLING:
+                break
+            sent.append(result.burst)
+            assert station == at(CALLING, own=OWN, called=FAR, cycles=len(sent))
+        assert sent == [FAR_1, FAR_2] * 64
+        assert result.burst == SILENCE
+        assert station == at(STANDBY, own=OWN, cycles=128)
+
+
+def answer_to_the_last():
+    for number, control in ((1, CS1), (2, CS2)):
+        # The step behind the 128th burst still hears its answer.
+        last = at(CALLING, called=FAR, cycles=128, last=number)
+        result = answer(last, control, 0, 0, offer=text_offer(E, E, E))
+        assert shown(result) == (SENDING, number, (E, E, E), (), True, 0)
+        # One answer, or two that differ, are too few then.
+        for one in (0, 3 - number):
+            result = answer(last._replace(last=one), control, 0, 0)
+            assert result.station == at(STANDBY, cycles=128)
+        # With 127 sent the 128th goes out, and the next step may complete.
+        result = answer(last._replace(cycles=127, last=0), control, 0, 0)
+        assert result.station == last and result.burst == FAR_2
+        assert answer(last._replace(cycles=126, last=0), control, 0, 0).burst == FAR_1
+
+
+def two_alike_in_succession():
+    """02: "goes on to traffic on two successive identical CS1 or CS2"."""
+    def heard(*firsts, sent=1):
+        """How many steps until it goes on, and under which number."""
+        station = at(CALLING, called=FAR, cycles=sent)
+        for number, first in enumerate(firsts):
+            station = answer(station, first, 77, 255).station
+            if station.place == SENDING:
+                return number + 1, station.number
+        return None
+
+    assert heard(CS1, CS1) == (2, 1) and heard(CS2, CS2) == (2, 2)
+    assert heard(CS1, CS2, CS1, CS1) == (4, 1)
+    assert heard(CS2, CS1, CS2, CS2) == (4, 2)
+    assert heard(CS1, CS2, CS1, CS2) is None
+    for between in (0, A, RQ, ALPHA, BETA, 128 + CS1, 255):
+        for control in (CS1, CS2):
+            assert heard(control, between, control) is None
+            assert heard(control, between, control, control)[0] == 4
+    # What the placing step heard does not count.
+    station = at(STANDBY)
+    for control in (CS1, CS2):
+        station = answer(at(STANDBY), control, 0, 0, offer=call_offer(*FAR)).station
+        assert station.last == 0
+        assert answer(station, control, 0, 0).station.place == CALLING
+
+
+def calling_hears_cs3():
+    for last in (0, 1, 2):
+        for sent in (1, 2, 127, 128):
+            for rest in ((0, 0), (A, 255)):
+                station = at(CALLING, called=FAR, cycles=sent, last=last, own=OWN,
+                             case="figures", plus=True, count=5, other_end=FAR)
+                result = answer(station, CS3, *rest, offer=call_offer(*FAR))
+                assert result == mode_a.Answer(
+                    at(STANDBY, own=OWN, cycles=128, case="figures", plus=True),
+                    SILENCE, (), False)
+
+
+def wait_of_128():
+    """Not in the 128th step behind the one that goes to Stand-by, in the 129th;
+    whatever identity is offered."""
+    for called in (FAR, spelt("AAAA")):
+        station = answer(at(CALLING, called=FAR, cycles=9), CS3, 0, 0).station
+        for number in range(1, 129):
+            result = answer(station, *SILENCE, offer=call_offer(*called))
+            assert not result.taken and result.burst == SILENCE
+            station = result.station
+            assert station == at(STANDBY, cycles=128 - number)
+        result = answer(station, *SILENCE, offer=call_offer(*called))
+        assert result.taken and result.station.place == CALLING
+    # Meanwhile calls are answered, and the wait is gone with that.
+    waiting = at(STANDBY, own=OWN, cycles=128)
+    answered = stood(OWN_1, OWN_2, station=waiting, offer=call_offer(*FAR))
+    assert answered.station == at(RECEIVING, 1, master=False, own=OWN)
+    assert not answered.taken
+    # No other way into Stand-by has one.
+    for station, burst in (
+            (at(OPENING), (CS3, 0, 0)), (at(ENDING, 1, total=1), (CS2, 0, 0)),
+            (at(ENDING, 1, total=4), SILENCE), (at(RECEIVING, 1), (ALPHA,) * 3)):
+        station = station._replace(own=OWN, other_end=FAR, case="figures", plus=True)
+        left = answer(station, *burst).station
+        assert left == at(STANDBY, own=OWN, case="figures", plus=True)
+        assert answer(left, *SILENCE, offer=call_offer(*FAR)).taken
+
+
+def offer_at_completion():
+    """The offer of the very step is taken, as at Opening."""
+    for number, control in ((1, CS1), (2, CS2)):
+        for master in (True, False):
+            # A slave at Calling comes from no step.
+            station = at(CALLING, called=FAR, cycles=7, last=number, own=OWN,
+                         master=master)
+            sending = at(SENDING, number, own=OWN, other_end=FAR, master=master)
+            for offer, block, taken in (
+                    (text_offer(A, E, BETA), (A, E, BETA), True),
+                    (NOTHING, (BETA,) * 3, True),
+                    (OVER, (FIGURES, PLUS, QUERY), True),
+                    (call_offer(*OWN), (BETA,) * 3, False)):
+                assert answer(station, control, 0, 0, offer=offer) == mode_a.Answer(
+                    sending._replace(held=block), block, (), taken)
+            ending = at(ENDING, number, total=1, own=OWN, other_end=FAR,
+                        master=master)
+            assert answer(station, control, 0, 0, offer=END) == mode_a.Answer(
+                ending, (ALPHA,) * 3, (), True)
+
+
+def call_offered_elsewhere():
+    """It is taken at Stand-by alone.  Where a row takes, it gives beta beta beta
+    as nothing does."""
+    offer = call_offer(*FAR)
+    for number in (1, 2):
+        confirming = (CS2, CS1)[number - 1]
+        result = answer(at(SENDING, number, (A, A, A), count=31), confirming, 0, 0,
+                        offer=offer)
+        assert shown(result) == (SENDING, 3 - number, (BETA,) * 3, (), False, 0)
+        assert result.station.held == (BETA,) * 3
+        result = answer(at(OPENING), (CS1, CS2)[number - 1], 0, 0, offer=offer)
+        assert shown(result) == (SENDING, number, (BETA,) * 3, (), False, 0)
+    # Everywhere else as if nothing were offered, but that it is not taken.
+    for place in PLACES:
+        for first in INTACT + [0, 255]:
+            for rest in ((0, 0), (first, first), (A, A), (ALPHA, BETA)):
+                for last in (0, 1, 2):
+                    station = at(place, 1, (A, A, A), total=2, called=FAR,
+                                 cycles=3, last=last, own=OWN)
+                    assert answer(station, first, *rest, offer=offer) == answer(
+                        station, first, *rest)._replace(taken=False)
+                    if place not in (CALLING, STANDBY):
+                        break
+
+
+def refusal_eight():
+    """02: "8, an identity signal outside table 3a, checked before all others at
+    the call".  At every place, and before 4."""
+    within = spelt(TABLE_3B)
+    for place in PLACES:
+        good = at(place, 1, (A, A, A), total=1, called=FAR, cycles=1, own=OWN)
+        unsound = [good._replace(count=32)]
+        if place == ENDING:
+            unsound += [good._replace(total=total) for total in (0, 5)]
+        if place == SENDING:
+            unsound += [good._replace(held=(A, word, A)) for word in (RQ, 0)]
+        for index in range(4):
+            for word in [one for one in INTACT if one not in within] + [0, 128 + A]:
+                words = list(FAR)
+                words[index] = word
+                for burst in (SILENCE, (CS1, 0, 0), OWN_1):
+                    for station in [good] + unsound:
+                        assert answer(station, *burst, offer=call_offer(*words)) == (
+                            Refused(8, index))
+        # The first of several.
+        assert answer(good, *SILENCE, offer=call_offer(A, 0, A, RQ)) == Refused(8, 1)
+        # A good call: 4 is told then.
+        for station in unsound:
+            assert answer(station, *SILENCE, offer=call_offer(*FAR)) == Refused(4, 0)
+    # During the wait, on the 32nd repetition, and where a call is heard.
+    bad = call_offer(A, A, A, CS1)
+    assert answer(at(STANDBY, cycles=5), *SILENCE, offer=bad) == Refused(8, 3)
+    assert answer(at(ASKING, count=31), *SILENCE, offer=bad) == Refused(8, 3)
+    assert answer(at(STANDBY, own=OWN, last=1), *OWN_2, offer=bad) == Refused(8, 3)
+    # A text offer is judged for 3, whatever its words would be as an identity.
+    assert answer(at(STANDBY), *SILENCE, offer=text_offer(A, L, RQ)) == Refused(3, 2)
+
+
+def counters_beyond_limits():
+    # More than 128 call bursts count as 128.
+    for sent in range(256):
+        station = at(CALLING, called=FAR, cycles=sent, last=1)
+        assert answer(station, CS1, 0, 0).station.place == SENDING
+        result = answer(station, *SILENCE)
+        if sent >= 128:
+            assert result == mode_a.Answer(at(STANDBY, cycles=128), SILENCE, (), False)
+        else:
+            assert result.station == at(CALLING, called=FAR, cycles=sent + 1)
+            assert result.burst == (FAR_1 if sent % 2 == 0 else FAR_2)
+    # A wait of any size runs down by one a step.
+    for wait in range(256):
+        result = answer(at(STANDBY, cycles=wait), *SILENCE)
+        assert result.station == at(STANDBY, cycles=max(wait - 1, 0))
+        placed = answer(at(STANDBY, cycles=wait), *SILENCE, offer=call_offer(*FAR))
+        assert placed.taken == (wait == 0)
+
+
+def call_fields_that_contradict():
+    # No refusal concerns the identity called, the own one, or who is at the
+    # other end; a count at Calling is set to 0, as by every step there.
+    wrong = (0, RQ, CS1, 255)
+    station = at(CALLING, called=wrong, cycles=4, own=wrong, other_end=OWN, count=31,
+                 case="figures", plus=True)
+    result = answer(station, *SILENCE)
+    assert result == mode_a.Answer(
+        station._replace(cycles=5, count=0), (0, RQ, RQ), (), False)
+    result = answer(result.station, *SILENCE)
+    assert result.burst == (CS1, 255, RQ)
+    result = answer(result.station._replace(last=2), CS2, 0, 0)
+    assert result.station == at(SENDING, 2, (BETA,) * 3, own=wrong, other_end=wrong,
+                                case="figures", plus=True)
+    # Somebody at the other end of a station that stays at Stand-by: it stays so.
+    station = at(STANDBY, own=OWN, other_end=FAR, case="figures", plus=True, count=9)
+    assert answer(station, *OWN_1).station == station._replace(last=1, count=0)
+
+
+def identities_kept():
+    """No step changes the own identity; who is at the other end stays until
+    Stand-by is entered, or a call is answered, placed or completed."""
+    draw = random.Random(8)
+    for _ in range(4000):
+        place = draw.choice(PLACES)
+        station = at(place, draw.choice((1, 2)), (A, E, A), total=draw.randint(1, 4),
+                     count=draw.choice((0, 31)), own=draw.choice((OWN, FAR)),
+                     other_end=draw.choice((None, FAR)), called=OWN,
+                     cycles=draw.choice((0, 5, 128)), last=draw.randrange(3),
+                     master=draw.random() < 0.5)
+        burst = draw.choice((SILENCE, (CS1, 0, 0), (CS2, 0, 0), (CS3, 0, 0), RQ3,
+                             TURN, (ALPHA,) * 3, (A, E, A), OWN_1, OWN_2))
+        offer = draw.choice((NOTHING, END, OVER, call_offer(*OWN)))
+        after = answer(station, *burst, offer=offer).station
+        assert after.own == station.own
+        if after.place == place or place not in (STANDBY, CALLING) and (
+                after.place != STANDBY):
+            assert after.other_end == station.other_end
+        elif place == CALLING and after.place != STANDBY:
+            assert after.other_end == OWN
+        else:
+            assert after.other_end is None
+        # A role is given where a call is answered or placed.
+        if place != STANDBY or after.place == STANDBY:
+            assert after.master == station.master
+
+
+def whole_call():
+    """A call between two stations with damage, then traffic, a turn, the end and
+    a call the other way."""
+    first, second = mode_a.standing_by(OWN), mode_a.standing_by(FAR)
+    on_the_way = SILENCE
+
+    def step_of(station, expected, offer=NOTHING, heard=None, taken=False,
+                printed=()):
+        """Hears what is on the way, or what damage makes of it."""
+        nonlocal on_the_way
+        result = answer(station, *(on_the_way if heard is None else heard),
+                        offer=offer)
+        assert result.burst == expected, result
+        assert (result.taken, result.printed) == (taken, printed)
+        on_the_way = result.burst
+        return result.station
+
+    first = step_of(first, FAR_1, offer=call_offer(*FAR), taken=True)
+    second = step_of(second, SILENCE)
+    first = step_of(first, FAR_2)
+    second = step_of(second, SILENCE, heard=(FAR_2[0], 0, RQ))
+    first = step_of(first, FAR_1)
+    second = step_of(second, SILENCE)
+    first = step_of(first, FAR_2)
+    second = step_of(second, (CS1, 0, 0))
+    assert second == at(RECEIVING, 1, master=False, own=FAR)
+    first = step_of(first, FAR_1)
+    second = step_of(second, (CS1, 0, 0))
+    first = step_of(first, FAR_2, heard=SILENCE)
+    second = step_of(second, (CS1, 0, 0))
+    first = step_of(first, FAR_1, offer=text_offer(E, E, E))
+    second = step_of(second, (CS1, 0, 0))
+    assert second.count == 3 and first.cycles == 7
+    first = step_of(first, (A, E, A), offer=text_offer(A, E, A), taken=True)
+    assert first == at(SENDING, 1, (A, E, A), own=OWN, other_end=FAR)
+    second = step_of(second, (CS1, 0, 0), heard=(A, 0, A))
+    first = step_of(first, (A, E, A), offer=OVER)
+    second = step_of(second, (CS2, 0, 0), printed=(A, E, A))
+    over = (FIGURES, PLUS, QUERY)
+    first = step_of(first, over, offer=OVER, taken=True)
+    second = step_of(second, (CS3, 0, 0), printed=over)
+    first = step_of(first, TURN, offer=call_offer(*FAR))
+    second = step_of(second, RQ3)
+    first = step_of(first, (CS1, 0, 0))
+    second = step_of(second, (E, E, E), offer=text_offer(E, E, E), taken=True)
+    first = step_of(first, (CS2, 0, 0), printed=(E, E, E))
+    second = step_of(second, (ALPHA,) * 3, offer=END, taken=True)
+    assert first.other_end == FAR and second.other_end is None
+    first = step_of(first, (CS1, 0, 0), offer=call_offer(*FAR))
+    assert first == at(STANDBY, own=OWN)
+    second = step_of(second, SILENCE)
+    assert second == at(STANDBY, own=FAR, case="figures", master=False)
+    # The other way; the first, a master until then, becomes the slave.
+    second = step_of(second, OWN_1, offer=call_offer(*OWN), taken=True)
+    first = step_of(first, SILENCE)
+    second = step_of(second, OWN_2)
+    first = step_of(first, (CS1, 0, 0))
+    second = step_of(second, OWN_1)
+    first = step_of(first, (CS1, 0, 0))
+    second = step_of(second, (BETA,) * 3, taken=True)
+    assert second == at(SENDING, 1, (BETA,) * 3, own=FAR, other_end=OWN)
+    assert first == at(RECEIVING, 1, master=False, own=OWN, count=1)
 
 
 # --- Demand 3 on random runs of two stations ---
@@ -513,6 +1018,16 @@ class Side:
         return twin
 
 
+def takes(before, after):
+    """Whether the row of this step takes.  A call offered there is not reported
+    as taken, and the block counts all the same."""
+    if after.place not in (SENDING, ENDING):
+        return False
+    if before.place == SENDING:
+        return after.place == ENDING or after.number != before.number
+    return before.place in (OPENING, CALLING)
+
+
 def one_step(hearer, sender, burst, offer):
     """The hearer hears the burst.  Checks what demand 3 says of printing and
     confirming; answers the burst it sends and whether it confirmed."""
@@ -520,13 +1035,14 @@ def one_step(hearer, sender, burst, offer):
     result = mode_a.step(before, burst, offer)
     after = result.station
     hearer.station = after
-    confirmed = before.place == SENDING and (result.taken or after.place == TURNING)
+    taking = takes(before, after)
+    confirmed = before.place == SENDING and (taking or after.place == TURNING)
     accepted = before.place == RECEIVING and (
         after.place == ASKING
         or (after.place == RECEIVING and after.number != before.number))
     if confirmed:
         hearer.confirmed += 1
-    if result.taken and after.place == SENDING:
+    if taking and after.place == SENDING:
         hearer.blocks.append(after.held)
     if accepted:
         # The next of the other's blocks, none missing and none twice.
@@ -549,8 +1065,10 @@ def random_offer(draw):
     if chance < 0.70:
         return text_offer(*(draw.choice(TRAFFIC + [BETA, PLUS, QUERY, FIGURES])
                             for _ in range(3)))
-    if chance < 0.85:
+    if chance < 0.82:
         return NOTHING
+    if chance < 0.85:
+        return call_offer(*draw.choice((OWN, FAR)))
     return OVER if chance < 0.995 else END
 
 
@@ -566,29 +1084,95 @@ def two_undamaged_exchanges(draw, sender, hearer, burst):
     raise AssertionError("no confirmation within two undamaged exchanges")
 
 
+def run_of_two(draw, sender, hearer, burst, most, damage, seen):
+    """A run of demand 3.  It ends "where a station at Stand-by places a call".
+    Counts in `seen` what it passes through."""
+    for _ in range(most):
+        if sender.station.place == SENDING and draw.random() < 0.1:
+            two_undamaged_exchanges(draw, sender, hearer, burst)
+            seen["exchanges"] += 1
+        heard = tuple(draw.choice(MUTILATED) if draw.random() < damage
+                      else word for word in burst)
+        before = hearer.station
+        burst, _ = one_step(hearer, sender, heard, random_offer(draw))
+        after = hearer.station
+        if before.place == STANDBY and after.place == CALLING:
+            seen["ended by a call"] += 1
+            break
+        seen["turns"] += before.place == TURNING and after.place == RECEIVING
+        if before.place == CALLING and after.place in (SENDING, ENDING):
+            # What a completed call leaves: the slave is Receiving and awaits 1.
+            slave = sender.station
+            assert (slave.place, slave.number) == (RECEIVING, 1)
+            assert after.number == 1 and after.master and not slave.master
+            assert (after.other_end, slave.other_end) == (slave.own, None)
+            seen["completed"] += 1
+            seen["after repetitions"] += slave.count > 4
+        seen["ran out"] += before.place == CALLING and after.place == STANDBY
+        sender, hearer = hearer, sender
+    places = (sender.station.place, hearer.station.place)
+    seen["ends"] += STANDBY in places
+    seen["losses"] += LOST in places
+
+
+def seen_nothing():
+    return dict.fromkeys(("exchanges", "turns", "ends", "losses", "completed",
+                          "after repetitions", "ran out", "ended by a call"), 0)
+
+
+DAMAGE = (0, 0.05, 0.2, 0.5)
+
+
 def demand_three():
     draw = random.Random(3)
-    turns = ends = losses = exchanges = 0
-    for run in range(2000):
+    seen = seen_nothing()
+    for run in range(1200):
         master, slave = Side(mode_a.fresh_master()), Side(mode_a.fresh_slave())
         # "the slave's CS1 first"
-        sender, hearer, burst = slave, master, (CS1, 0, 0)
-        damage = (0, 0.05, 0.2, 0.5)[run % 4]
-        for _ in range(120):
-            if sender.station.place == SENDING and draw.random() < 0.1:
-                two_undamaged_exchanges(draw, sender, hearer, burst)
-                exchanges += 1
-            heard = tuple(draw.choice(MUTILATED) if draw.random() < damage
-                          else word for word in burst)
-            place = hearer.station.place
-            burst, _ = one_step(hearer, sender, heard, random_offer(draw))
-            turns += place == TURNING and hearer.station.place == RECEIVING
-            sender, hearer = hearer, sender
-        places = (master.station.place, slave.station.place)
-        ends += STANDBY in places
-        losses += LOST in places
+        run_of_two(draw, slave, master, (CS1, 0, 0), 120, DAMAGE[run % 4], seen)
     # The runs have to pass through what they are meant to show.
-    assert turns > 2000 and ends > 50 and losses > 50 and exchanges > 2000
+    assert seen["turns"] > 1200 and seen["exchanges"] > 1200
+    assert seen["ends"] + seen["ended by a call"] > 60 and seen["losses"] > 40
+    assert seen["completed"] == seen["ran out"] == 0
+
+
+def left_at_standby(draw, own):
+    """A station at Stand-by as anything may have left it."""
+    return at(STANDBY, own=own, master=draw.random() < 0.5,
+              case=draw.choice(("letters", "figures")), plus=draw.random() < 0.5,
+              cycles=draw.choice((0, 0, 5, 128)), last=draw.randrange(3))
+
+
+def demand_three_from_a_call():
+    """A call just placed to a station at Stand-by, and what one leaves."""
+    draw = random.Random(9)
+    seen = seen_nothing()
+    for run in range(400):
+        caller = left_at_standby(draw, OWN)._replace(cycles=0, last=0)
+        called = FAR if run % 20 else spelt("ABCD")
+        placed = answer(caller, *SILENCE, offer=call_offer(*called))
+        assert placed.taken
+        # A wait, so that the one called does not call itself where it hears
+        # nothing.
+        slave = left_at_standby(draw, FAR)._replace(cycles=255)
+        run_of_two(draw, Side(placed.station), Side(slave), placed.burst,
+                   270 if run % 20 == 0 or run % 4 == 3 else 120, DAMAGE[run % 4],
+                   seen)
+    assert seen["completed"] > 250 and seen["after repetitions"] > 20
+    assert seen["ran out"] > 15 and seen["turns"] > 1000 and seen["losses"] > 20
+    assert seen["ends"] + seen["ended by a call"] > 80 and seen["exchanges"] > 800
+    seen = seen_nothing()
+    for run in range(256):
+        block = random_offer(draw).words[:3]
+        block = block if all(w in TRAFFIC + [BETA] for w in block) else (BETA,) * 3
+        master = Side(at(SENDING, 1, block, own=OWN, other_end=FAR))
+        master.blocks.append(block)
+        if run % 8 == 7:
+            master = Side(at(ENDING, 1, total=1, own=OWN, other_end=FAR))
+            block = (ALPHA,) * 3
+        slave = Side(at(RECEIVING, 1, own=FAR, master=False, count=run % 32))
+        run_of_two(draw, master, slave, block, 60, DAMAGE[run // 32 % 4], seen)
+    assert seen["losses"] > 20 and seen["exchanges"] > 200
 
 
 # --- Mode B ---
@@ -752,6 +1336,11 @@ def hear_example():
     assert programs.hear(turned)[0].endswith(
         b"5 beta.beta.beta none\n6 beta.alpha.beta none\n7 CS2 none\n"
         b"8 CS1 none\n9 silent none\n")
+    # At Stand-by it has no identity, and hears no call.
+    called = bytes([ALPHA] * 3 + [0, RQ, 0, 0, 0, RQ, 0, RQ, 0, A, A, RQ])
+    assert programs.hear(called)[0] == (
+        b"step answer printed\n1 CS2 none\n2 silent none\n3 silent none\n"
+        b"4 silent none\n5 silent none\n")
 
 
 def words_in_and_out():
@@ -805,7 +1394,7 @@ def whole_runs():
     # A refusal that is a record's line is nothing told.
     refused = b"E\0\0\0\1\0A"
     assert programs.run("calls", (), refused) == (b"refused 2 1 -\n", b"", 0)
-    assert programs.run("steps", (), bytes([0, 6, 0, 0, 0, 0, 0, 99] + [0] * 9)) == (
+    assert programs.run("steps", (), bytes([0, 6, 0, 0, 0, 0, 0, 99] + [0] * 24)) == (
         b"refused 4 0\n", b"", 0)
     for name in programs.PROGRAMS:
         usage = b"%s: usage: ./telex %s < input\n" % (name.encode(), name.encode())
@@ -858,18 +1447,75 @@ def letter_through_all():
     assert told == "not a number at %d: a byte that is no digit" % place
 
 
+def step_record(head, burst, offer, *, behind=(0,) * 6, known=(0,) * 5,
+                called=(0,) * 4):
+    """head: bytes 0 to 9; offer: 13 to 16; behind: 17 to 22; known: 23 to 27."""
+    record = bytes([*head, *burst, *offer, *behind, *known, *called])
+    assert len(record) == 32
+    return record
+
+
 def steps_records():
     head = [1, 4, 1, 9, 9, 9, 9, 31, 0, 0]
-    accepted = bytes(head + [116, 86, 51] + [0, 9, 9, 9])
-    lost = bytes(head + [116, 0, 51] + [3, 9, 9, 9])
-    refused = bytes(head + [116, 0, 51] + [5, 71, 51, 15])
-    assert programs.steps(accepted + lost + refused + accepted[:16]) == (
-        b"receiving 2 0 0 0 0 0 letters 0 | 106 0 0 | 116 86 0 | 0\n"
-        b"lost 0 0 0 0 0 0 letters 0 | 0 0 0 | 0 0 0 | 0\n"
+    nobody = b" | slave 0 0 0 0 0 0 nobody 0 0 0 0\n"
+    accepted = step_record(head, [116, 86, 51], [0, 9, 9, 9])
+    lost = step_record(head, [116, 0, 51], [3, 9, 9, 9])
+    refused = step_record(head, [116, 0, 51], [6, 71, 51, 15])
+    assert programs.steps(accepted + lost + refused + accepted[:31]) == (
+        b"receiving 2 0 0 0 0 0 letters 0 | 106 0 0 | 116 86 0 | 0" + nobody +
+        b"lost 0 0 0 0 0 0 letters 0 | 0 0 0 | 0 0 0 | 0" + nobody +
         b"refused 3 2\n", None)
-    sending = bytes([0, 8, 7, 71, 51, 86, 0, 5, 3, 5, 106, 1, 2, 4, 0, 0, 0])
+    sending = step_record([0, 9, 7, 71, 51, 86, 0, 5, 3, 5], [106, 1, 2],
+                          [5, 0, 0, 0], known=(3, 9, 8, 7, 0))
     assert programs.steps(sending)[0] == (
-        b"sending 2 51 51 51 0 0 figures 1 | 51 51 51 | 0 0 0 | 1\n")
+        b"sending 2 51 51 51 0 0 figures 1 | 51 51 51 | 0 0 0 | 1"
+        b" | master 0 0 0 0 0 0 four 9 8 7 0\n")
+
+
+def steps_records_of_calls():
+    # Stand-by, which hears its second call block behind the first; the same with
+    # byte 18 for the second; and what is nobody's.
+    head = [0, 6 + 9, 0, 1, 2, 3, 4, 0, 1, 1]
+    own = list(OWN)
+    line = programs.steps(step_record(head, OWN_2, [0, 0, 0, 0],
+                                      behind=[9, 1 + 3] + own))[0]
+    assert line == (b"receiving 1 0 0 0 0 0 letters 0 | 101 0 0 | 0 0 0 | 0"
+                    b" | slave 0 0 0 0 0 0 nobody 0 0 0 0\n")
+    line = programs.steps(step_record(head, OWN_2, [0, 0, 0, 0],
+                                      behind=[9, 2 + 3] + own,
+                                      known=(255, 1, 2, 3, 4)))[0]
+    assert line == (b"standby 0 0 0 0 0 0 figures 1 | 0 0 0 | 0 0 0 | 0"
+                    b" | master 8 2 0 0 0 0 four 1 2 3 4\n")
+    # A call placed, and one that is refused.
+    called = b" ".join(b"%d" % word for word in FAR)
+    offered = step_record(head, [0, 0, 0], [4 + 5, 0, 0, 0], called=FAR)
+    assert programs.steps(offered)[0] == (
+        b"calling 0 0 0 0 0 0 letters 0 | %d %d %d | 0 0 0 | 1"
+        b" | master 1 0 %s nobody 0 0 0 0\n" % (*FAR_1, called))
+    assert programs.steps(offered[:30] + b"\0\0")[0] == b"refused 8 2\n"
+    # Calling goes on, and completes.
+    head = [1, 8, 0] + list(FAR) + [0, 0, 0]
+    assert programs.steps(step_record(head, [CS2, 0, 0], [1, A, A, A],
+                                      behind=[5, 1, 0, 0, 0, 0]))[0] == (
+        b"calling 0 0 0 0 0 0 letters 0 | %d %d %d | 0 0 0 | 0"
+        b" | slave 6 2 %s nobody 0 0 0 0\n" % (*FAR_2, called))
+    assert programs.steps(step_record(head, [CS2, 0, 0], [1, A, E, A],
+                                      behind=[5, 254, 0, 0, 0, 0]))[0] == (
+        b"sending 2 71 86 71 0 0 letters 0 | 71 86 71 | 0 0 0 | 1"
+        b" | slave 0 0 0 0 0 0 four %s\n" % called)
+    # Fields that a place does not carry are ignored, and written as 0.
+    for place in range(9):
+        record = bytearray(step_record([0, place, 1, A, A, A, 1, 0, 0, 0], [0] * 3,
+                                       [0] * 4, behind=[7, 1, 0, 0, 0, 0]))
+        fields = programs.steps(bytes(record))[0].decode().split()
+        told = [int(field) for field in fields[fields.index("master") + 1:][:6]]
+        assert any(told) == (place in (6, 8)), (place, told)
+        if place not in (6, 8):
+            line = programs.steps(bytes(record))
+            for index in (17, 18):
+                for byte in (0, 128, 255):
+                    record[index] = byte
+                    assert programs.steps(bytes(record)) == line
 
 
 def calls_records():
@@ -926,6 +1572,25 @@ def meaning_records():
         assert lines[byte] == "0 0"
     assert programs.calls(b"M") == (b"", "bad record at 0: cut short")
     assert programs.calls(b"MGM") == (b"1 1\n", "bad record at 2: cut short")
+
+
+def identity_records():
+    """Of `I`: each word at each place."""
+    assert programs.calls(b"I" + bytes(OWN) + b"I\0\0\0\0") == (
+        b"ok\nrefused 8 0\n", None)
+    data = bytearray()
+    wanted = []
+    for word in range(256):
+        for index in range(4):
+            words = list(FAR)
+            words[index] = word
+            data += b"I" + bytes(words)
+            wanted.append("ok" if word in spelt(TABLE_3B) else "refused 8 %d" % index)
+    assert programs.calls(bytes(data)) == (
+        "".join(line + "\n" for line in wanted).encode(), None)
+    for length in range(1, 5):
+        assert programs.calls(b"MG" + (b"I" + bytes(OWN))[:length]) == (
+            b"1 1\n", "bad record at 2: cut short")
 
 
 def stepped(*fields):
@@ -1209,31 +1874,34 @@ def conversations_are_answered():
     assert ends.count(programs.TOLD) >= 6 and ends.count(programs.DONE) >= 3
 
 
+def step_inputs(data):
+    size = programs.RECORD
+    return [data[start:start + size] for start in range(0, len(data) - size + 1, size)]
+
+
 def inputs_of_steps():
-    data = gate_inputs("steps")
-    records = [one[start:start + 17] for one in data
-               for start in range(0, len(one) - 16, 17)]
+    records = [one for data in gate_inputs("steps") for one in step_inputs(data)]
     # Each field with each byte; the fields drawn apart from one another, which
     # no run of stations leaves.
-    for index in range(17):
+    for index in range(32):
         assert len({record[index] for record in records}) == 256
     # Around the time-out at each place, with either role.
     around = {}
     for record in records:
-        key = (record[0] % 2, record[1] % 8, record[7])
+        key = (record[0] % 2, record[1] % 9, record[7])
         around[key] = around.get(key, 0) + 1
     for role in range(2):
-        for place in range(8):
+        for place in range(9):
             for count in (0, 30, 31, 32):
                 assert around[role, place, count] >= 50
     # Chains: counts 0 to 31 one after another, at each place with a count.
     climbed = {}
     length = 0
     for before, after in zip(records, records[1:]):
-        same = before[1] % 8 == after[1] % 8 and before[0] % 2 == after[0] % 2
+        same = before[1] % 9 == after[1] % 9 and before[0] % 2 == after[0] % 2
         length = length + 1 if same and after[7] == before[7] + 1 else 0
         if length == 31:
-            climbed[after[1] % 8] = climbed.get(after[1] % 8, 0) + 1
+            climbed[after[1] % 9] = climbed.get(after[1] % 9, 0) + 1
     for place in (0, 1, 2, 4, 5):
         assert climbed[place] >= 4
     # Damage by any mutilated byte, at each place of the burst.
@@ -1242,6 +1910,73 @@ def inputs_of_steps():
         heard = [record[index] for record in records]
         assert bad <= set(heard)
         assert sum(word in bad and word != 0 for word in heard) > 20000
+
+
+def inputs_of_calls():
+    """02, T-02: what the inputs of `steps` hold of calls.  The input that is there
+    for them alone has it."""
+    data = [case.data for case in gate_cases("steps") if case.about == "calls"]
+    found = {}
+    for record in step_inputs(data[0]):
+        station, burst, offer = programs.read_step(record)
+        result = mode_a.step(station, burst, offer)
+        keys = []
+        if isinstance(result, Refused):
+            if result.number == 8:
+                keys = [("8", station.place), ("8 at", result.beside)]
+                keys += [("8 before 4", station.place)] * (station.count > 31)
+        elif station.place == STANDBY and result.station.place == RECEIVING:
+            keys = [("answered behind", station.last), ("answered", offer.kind),
+                    ("answered, to wait", station.cycles)]
+        elif station.place == STANDBY and result.station.place == CALLING:
+            keys = [("placed, half heard", station.last)]
+        elif station.place == STANDBY:
+            keys = [("heard, then", station.last, result.station.last),
+                    ("not placed, to wait", station.cycles, offer.kind)]
+        elif station.place == CALLING and result.station.place in (SENDING, ENDING):
+            keys = [("completed under", station.last), ("completed", offer.kind),
+                    ("completed, sent", station.cycles)]
+        elif station.place == CALLING:
+            keys = [("called, heard", station.last, result.station.last),
+                    (result.station.place, "sent", station.cycles)]
+        for key in keys:
+            found[key] = found.get(key, 0) + 1
+
+    def has(least, *key):
+        assert found.get(key, 0) >= least, (key, found.get(key, 0))
+
+    around = (0, 1, 2, 127, 128, 129, 255)
+    for place in PLACES:
+        has(20, "8", place)
+        has(5, "8 before 4", place)
+    for index in range(4):
+        has(50, "8 at", index)
+        assert index == 0 or found["8 at", index] < 3000
+    for kind in programs.OFFERS:
+        has(10, "answered", kind)
+        has(20, "completed", kind)
+    for number in (1, 2):
+        has(100, "answered behind", number)
+        has(100, "completed under", number)
+    for last in range(3):
+        has(15, "placed, half heard", last)
+        for heard in range(3):
+            if last + heard != 3:
+                has(20, "heard, then", last, heard)
+            if last != heard or last == 0:
+                has(20, "called, heard", last, heard)
+    for cycles in around:
+        has(8, "answered, to wait", cycles)
+        has(8, "completed, sent", cycles)
+        has(8, STANDBY, "sent", cycles)
+        if cycles > 0:
+            has(4, "not placed, to wait", cycles, "call")
+    for cycles in range(1, 128):
+        has(1, CALLING, "sent", cycles)
+        # The whole wait, each step of it with a call offered.
+        has(1, "not placed, to wait", cycles, "call")
+    assert not any((CALLING, "sent", cycles) in found for cycles in range(128, 256))
+    assert ("not placed, to wait", 0, "call") not in found
 
 
 def inputs_of_receive():
@@ -1442,7 +2177,7 @@ def faults_of_groups_are_told():
 def faults_of_all_programs():
     tellers = {teller for one in faults.FAULTS for teller in one.tellers}
     assert tellers == set(COMPARED) | {"calls " + chr(kind) for kind in inputs.KINDS}
-    assert len({one.about for one in faults.FAULTS}) == len(faults.FAULTS) >= 220
+    assert len({one.about for one in faults.FAULTS}) == len(faults.FAULTS) >= 340
     # The modules of the second program are as they were.
     assert faults.programs_with(None) is not programs.run
     assert sys.modules["programs"] is programs
@@ -1454,17 +2189,24 @@ TESTS = [
     each_byte_alone, small_letters_as_capitals, small_letters_and_refusals,
     sending_examples, time_out_examples, first_word_only, over_across_blocks,
     over_cancelled, over_offered, opening_and_ending, turning_by_role,
-    station_refusals, errors_that_look_right, rows_and_kinds, demand_three,
+    station_refusals, errors_that_look_right, rows_and_kinds,
+    table_three_a, standing_by_or_refused, call_heard, no_identity_hears_no_call,
+    call_placed, calls_in_turn, answer_to_the_last, two_alike_in_succession,
+    calling_hears_cs3, wait_of_128, offer_at_completion, call_offered_elsewhere,
+    refusal_eight, counters_beyond_limits, call_fields_that_contradict,
+    identities_kept, whole_call,
+    demand_three, demand_three_from_a_call,
     sender_examples, sender_corners, search_is_last_four, lock_either_way,
     lock_at_a_break, end_of_reception, settling, perfect_copy,
     hear_example, words_in_and_out, whole_runs, script_gives_whole_runs,
-    letter_through_all, steps_records,
-    calls_records, meaning_records, receive_records, receive_records_run_on,
+    letter_through_all, steps_records, steps_records_of_calls,
+    calls_records, meaning_records, identity_records,
+    receive_records, receive_records_run_on,
     receive_records_cut,
     compare_names_all_programs, compare_counts_inputs,
     compare_tells_who_does_not_answer,
     inputs_are_bytes, inputs_at_borders, inputs_tell_each_line,
-    inputs_of_steps, inputs_of_receive, inputs_of_small_letters,
+    inputs_of_steps, inputs_of_calls, inputs_of_receive, inputs_of_small_letters,
     inputs_of_groups, conversations_are_answered,
     faults_not_told_are_found, faults_of_groups_are_told, faults_of_all_programs,
 ]
