@@ -253,8 +253,8 @@ module _ (fresh : Station) (none-heard : NoneHeard fresh) where
     both-now : bothHeard (w .heard) (callOf (after fresh run .own .four) (e .burst)) ≡ bothHeard (lastMark (fresh .own .four) (lastStep fresh run)) (callOf (fresh .own .four) (e .burst))
     both-now = rw (mark-now, own-lasts fresh run)
 
-    pub hears-call-exactly : HearsCall fresh run e r
-    hears-call-exactly =
+    heard-so : HearsCall fresh run e r
+    heard-so =
         record {
           answers-exactly = (λ x. let h = told (fresh .own .four) (e .burst) (lastStep fresh run) (sym both-now ∙ sym receives ∙ x) in record { is-callable = h .0; in-succession = h .1 }, λ h. receives ∙ hears h);
           answers-so = λ h. answered-call (after fresh run) (e .burst) (e .offer) r answer w here (hears h);
@@ -265,3 +265,6 @@ module _ (fresh : Station) (none-heard : NoneHeard fresh) where
 
         hears : BothBlocks fresh run e → bothHeard (w .heard) (callOf (after fresh run .own .four) (e .burst)) ≡ true
         hears h = both-now ∙ tells (fresh .own .four) (e .burst) (lastStep fresh run) (h .is-callable) (h .in-succession)
+
+pub hears-call-exactly : (fresh : Station) → NoneHeard fresh → (run : Run) (w : Waiting) → after fresh run .place ≡ StandBy w → (e : Event) (r : Reply) → said (after fresh run) e ≡ answered r → HearsCall fresh run e r
+hears-call-exactly fresh none-heard run w here e r answer = heard-so fresh none-heard run w here e r answer
