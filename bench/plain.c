@@ -280,7 +280,7 @@ figures:
 #define TURN THREE(WORD_BETA, WORD_ALPHA, WORD_BETA)
 #define OVER THREE(WORD_FIGURES, WORD_PLUS, WORD_QUERY)
 
-enum { MOST_COUNT = 31, MOST_ENDS = 4 };
+enum { MOST_COUNT = 31, MOST_ENDS = 4, MOST_CALLS = 128, CALL_WAIT = 128 };
 
 /* What a word of an accepted block does to what was heard.  HEARD_FIGURES,
  * HEARD_PLUS and HEARD_OVER make eight states; byte s of a word's entry holds the
@@ -331,6 +331,44 @@ static inline uint32_t control(unsigned second)
     return WORD_CS1 + (WORD_CS2 - WORD_CS1) * second;
 }
 
+/* 001, table 3a, in its order: 1 for an identity signal. */
+static const uint8_t IDENTIFIES[256] = {
+    [60] = 1, [58] = 1, [46] = 1, [30] = 1,         /* V X Q K */
+    [57] = 1, [45] = 1, [29] = 1, [43] = 1,         /* M P C Y */
+    [27] = 1, [75] = 1, [116] = 1, [114] = 1,       /* F S T B */
+    [78] = 1, [86] = 1, [113] = 1, [77] = 1,        /* U E O I */
+    [85] = 1, [99] = 1, [83] = 1, [71] = 1          /* R Z D A */
+};
+
+/* The index of the first signal that is none, 4 where all are. */
+static inline unsigned first_outside(uint32_t identity)
+{
+    unsigned index = 0;
+
+    while (index < 4 && IDENTIFIES[identity >> 8 * index & 0xFF])
+        index++;
+    return index;
+}
+
+static inline uint32_t call_block_1(uint32_t identity)
+{
+    return THREE(identity & 0xFF, WORD_RQ, identity >> 8 & 0xFF);
+}
+
+static inline uint32_t call_block_2(uint32_t identity)
+{
+    return THREE(identity >> 16 & 0xFF, identity >> 24, WORD_RQ);
+}
+
+/* Which call block of its own a station hears: 0 none, 1 or 2.  An identity that
+ * is none has none. */
+static inline unsigned own_call(uint32_t own, uint32_t burst)
+{
+    if (first_outside(own) < 4)
+        return 0;
+    return burst == call_block_1(own) ? 1 : burst == call_block_2(own) ? 2 : 0;
+}
+
 struct station plain_fresh_master(void)
 {
     return (struct station){ .place = PLACE_OPENING };
@@ -341,17 +379,29 @@ struct station plain_fresh_slave(void)
     return (struct station){ .place = PLACE_RECEIVING, .slave = 1 };
 }
 
-/* Which refusal it is, in 01's order. */
-COLD static step_answer step_refused(const struct station *station, uint32_t offer)
+answer plain_standing_by(struct station *station, uint32_t identity)
+{
+    unsigned outside = first_outside(identity);
+
+    if (outside < 4)
+        return refused(8, outside);
+    *station = (struct station){ .place = PLACE_STANDBY, .slave = 1, .own = identity };
+    return 0;
+}
+
+/* Which refusal it is, in the order of 01 and 02. */
+COLD static step_answer step_refused(const struct station *station, uint64_t offer)
 {
     unsigned index = 0;
 
+    if (offer >> 32 == OFFER_CALL && first_outside((uint32_t)offer) < 4)
+        return (step_answer)first_outside((uint32_t)offer) << 56 | (step_answer)8 << 24;
     if (station->count > MOST_COUNT
         || (station->place == PLACE_SENDING && !is_block(station->held))
         || (station->place == PLACE_ENDING
             && (station->total < 1 || station->total > MOST_ENDS)))
         return (step_answer)4 << 24;
-    while (index < 2 && entry_of(offer, index) != 0)
+    while (index < 2 && entry_of((uint32_t)offer, index) != 0)
         index++;
     return (step_answer)index << 56 | (step_answer)3 << 24;
 }
@@ -378,22 +428,42 @@ static inline step_answer moves(struct station *station, unsigned place,
     return burst;
 }
 
+/* To Stand-by, where it may place no call for so many steps. */
+static inline step_answer rests(struct station *station, unsigned wait,
+                                uint32_t burst)
+{
+    station->cycles = (uint8_t)wait;
+    station->last = 0;
+    station->known = 0;
+    return moves(station, PLACE_STANDBY, burst);
+}
+
+/* A call is answered or placed. */
+static inline step_answer begins(struct station *station, unsigned slave,
+                                 unsigned place, uint32_t burst)
+{
+    station->slave = (uint8_t)slave;
+    station->heard = 0;
+    station->known = 0;
+    return moves(station, place, burst);
+}
+
 /* Text gives that block, nothing beta beta beta, over figures + ?, end alpha
- * alpha alpha and Ending. */
-static inline step_answer takes(struct station *station, uint32_t offer,
+ * alpha alpha and Ending.  A call gives beta beta beta and is not taken. */
+static inline step_answer takes(struct station *station, uint64_t offer,
                                 unsigned second)
 {
-    static const uint32_t GIVEN[4] = { BETAS, 0, OVER, ALPHAS };
-    static const uint32_t WORDS[4] = { 0, 0xFFFFFF, 0, 0 };
-    unsigned kind = offer >> 24 & 3;
-    uint32_t block = GIVEN[kind] | (offer & WORDS[kind]);
+    static const uint32_t GIVEN[5] = { BETAS, 0, OVER, ALPHAS, BETAS };
+    static const uint32_t WORDS[5] = { 0, 0xFFFFFF, 0, 0, 0 };
+    unsigned kind = (unsigned)(offer >> 32);
+    uint32_t block = GIVEN[kind] | ((uint32_t)offer & WORDS[kind]);
 
     station->held = block;
     station->place = kind == OFFER_END ? PLACE_ENDING : PLACE_SENDING;
     station->second = (uint8_t)second;
     station->total = 1;
     station->count = 0;
-    return (step_answer)1 << 56 | block;
+    return (step_answer)(kind != OFFER_CALL) << 56 | block;
 }
 
 /* The words of an accepted block but beta, moved up. */
@@ -410,14 +480,58 @@ COLD static uint32_t without_beta(uint32_t burst)
     return words;
 }
 
-step_answer plain_step(struct station *station, uint32_t burst, uint32_t offer)
+/* Stand-by: both call blocks in succession are answered; a call is placed where
+ * none is left to wait. */
+static step_answer stands_by(struct station *station, uint32_t burst, uint64_t offer)
+{
+    unsigned call = own_call(station->own, burst);
+
+    if (call + station->last == 3) {
+        station->second = 0;
+        return begins(station, 1, PLACE_RECEIVING, control(0));
+    }
+    if (offer >> 32 == OFFER_CALL && station->cycles == 0) {
+        station->held = (uint32_t)offer;
+        station->cycles = 1;
+        station->last = 0;
+        return (step_answer)1 << 56
+               | begins(station, 0, PLACE_CALLING, call_block_1(station->held));
+    }
+    station->cycles -= station->cycles != 0;
+    station->last = (uint8_t)call;
+    return moves(station, PLACE_STANDBY, 0);
+}
+
+/* Calling: the same control signal twice in succession, CS3, or the next block. */
+static step_answer calls_on(struct station *station, uint32_t burst, uint64_t offer)
+{
+    unsigned first = burst & 0xFF;
+    unsigned heard = first == WORD_CS1 ? 1 : first == WORD_CS2 ? 2 : 0;
+
+    if (heard != 0 && heard == station->last) {
+        station->other = station->held;
+        station->known = 1;
+        return takes(station, offer, heard - 1);
+    }
+    if (first == WORD_CS3 || station->cycles >= MOST_CALLS)
+        return rests(station, CALL_WAIT, 0);
+    burst = station->cycles % 2 == 0 ? call_block_1(station->held)
+                                     : call_block_2(station->held);
+    station->cycles++;
+    station->last = (uint8_t)heard;
+    return moves(station, PLACE_CALLING, burst);
+}
+
+step_answer plain_step(struct station *station, uint32_t burst, uint64_t offer)
 {
     unsigned first = burst & 0xFF;
     unsigned second = station->second;
     unsigned other = second ^ 1;
 
     if (UNLIKELY((station->count > MOST_COUNT)
-                 | ((offer >> 24 == OFFER_TEXT) & !is_block(offer))))
+                 | ((offer >> 32 == OFFER_TEXT) & !is_block((uint32_t)offer))))
+        return step_refused(station, offer);
+    if (UNLIKELY(offer >> 32 == OFFER_CALL && first_outside((uint32_t)offer) < 4))
         return step_refused(station, offer);
 
     switch (station->place) {
@@ -444,14 +558,14 @@ step_answer plain_step(struct station *station, uint32_t burst, uint32_t offer)
         if (first == WORD_CS1 || first == WORD_CS2)
             return takes(station, offer, first == WORD_CS2);
         if (first == WORD_CS3)
-            return moves(station, PLACE_STANDBY, 0);
+            return rests(station, 0, 0);
         return again(station, station->slave ? RQS : WORD_RQ);
 
     case PLACE_ENDING:
         if (UNLIKELY(station->total - 1u >= MOST_ENDS))
             return step_refused(station, offer);
         if (first == control(other) || station->total == MOST_ENDS)
-            return moves(station, PLACE_STANDBY, 0);
+            return rests(station, 0, 0);
         station->total++;
         return moves(station, PLACE_ENDING, ALPHAS);
 
@@ -461,7 +575,7 @@ step_answer plain_step(struct station *station, uint32_t burst, uint32_t offer)
         uint64_t e2 = entry_of(burst, 2);
 
         if ((e0 & e1 & e2) >> 63) {
-            unsigned over = offer >> 24 == OFFER_OVER;
+            unsigned over = offer >> 32 == OFFER_OVER;
             uint32_t printed = burst == BETAS ? 0 : burst;
             unsigned state = (station->heard & 3u) << 3;
             unsigned turns;
@@ -480,7 +594,7 @@ step_answer plain_step(struct station *station, uint32_t burst, uint32_t offer)
                    | (turns ? WORD_CS3 : control(other));
         }
         if (burst == ALPHAS)
-            return moves(station, PLACE_STANDBY, control(other));
+            return rests(station, 0, control(other));
         return again(station, control(second));
     }
 
@@ -490,6 +604,12 @@ step_answer plain_step(struct station *station, uint32_t burst, uint32_t offer)
             return moves(station, PLACE_OPENING, station->slave ? RQS : WORD_RQ);
         }
         return again(station, WORD_CS3);
+
+    case PLACE_STANDBY:
+        return stands_by(station, burst, offer);
+
+    case PLACE_CALLING:
+        return calls_on(station, burst, offer);
 
     default:
         station->count = 0;

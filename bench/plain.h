@@ -1,7 +1,7 @@
 /* not proved: for comparison only */
 
 /* Radio-telex logic after ITU-R M.625 (SITOR), as narrowed by paper 01 and changed
- * by 02 (T-01).  The proved calls are in crates/; docs/COST.md says what this C is
+ * by 02 (T-01, T-02).  The proved calls are in crates/; docs/COST.md says what this C is
  * compared for.
  *
  * A word is a byte, the unit sent first in bit 0.  A burst is three words in a
@@ -65,28 +65,42 @@ answer plain_slot(const uint8_t *text, size_t length, uint32_t number);
 
 enum {
     PLACE_SENDING, PLACE_TURNING, PLACE_OPENING, PLACE_ENDING,
-    PLACE_RECEIVING, PLACE_ASKING, PLACE_STANDBY, PLACE_LOST
+    PLACE_RECEIVING, PLACE_ASKING, PLACE_STANDBY, PLACE_LOST, PLACE_CALLING
 };
 
 enum { HEARD_FIGURES = 1, HEARD_PLUS = 2 };
 
+/* Four identity signals, the first in the low byte. */
+static inline uint32_t identity_of(uint8_t first, uint8_t second, uint8_t third,
+                                   uint8_t fourth)
+{
+    return burst_of(first, second, third) | (uint32_t)fourth << 24;
+}
+
 /* A field that the place does not carry has no meaning and is not cleared. */
 struct station {
-    uint32_t held;      /* Sending: the block */
+    uint32_t held;      /* Sending: the block; Calling: the identity called */
     uint8_t place;
     uint8_t second;     /* Sending, Turning, Ending, Receiving: 0 number 1, 1 number 2 */
     uint8_t total;      /* Ending: how often alpha alpha alpha was sent */
     uint8_t count;      /* the repetition count */
     uint8_t heard;      /* of what is received: HEARD_FIGURES, HEARD_PLUS */
     uint8_t slave;      /* 0 master, 1 slave */
+    uint8_t cycles;     /* Stand-by: steps left to wait; Calling: call bursts sent */
+    uint8_t last;       /* Stand-by: the own call block that the last step heard;
+                           Calling: the control signal; 0 none, 1 or 2 */
+    uint32_t own;       /* the own identity; 0 for none */
+    uint32_t other;     /* the identity at the other end, where `known` */
+    uint8_t known;      /* whether anybody is there: 0 nobody, 1 `other` */
 };
 
-/* An offer: its kind in the top byte, the words of a text below. */
-enum { OFFER_NOTHING, OFFER_TEXT, OFFER_OVER, OFFER_END };
+/* An offer: its kind in bits 32 to 39, the words of a text or the identity of a
+ * call below. */
+enum { OFFER_NOTHING, OFFER_TEXT, OFFER_OVER, OFFER_END, OFFER_CALL };
 
-static inline uint32_t offer_of(unsigned kind, uint32_t words)
+static inline uint64_t offer_of(unsigned kind, uint32_t words)
 {
-    return (uint32_t)kind << 24 | words;
+    return (uint64_t)kind << 32 | words;
 }
 
 /* Bits 0 to 23: the burst to send.  Bits 24 to 31: the refusal.  Bits 32 to 55:
@@ -103,8 +117,12 @@ static inline unsigned step_value(step_answer given) { return (unsigned)(given >
 struct station plain_fresh_master(void);
 struct station plain_fresh_slave(void);     /* its first burst is CS1 */
 
-/* Refusals 4, 3. */
-step_answer plain_step(struct station *station, uint32_t burst, uint32_t offer);
+/* A station at Stand-by with that identity.  Refusal 8: then the station is left
+ * as it is. */
+answer plain_standing_by(struct station *station, uint32_t identity);
+
+/* Refusals 8, 4, 3. */
+step_answer plain_step(struct station *station, uint32_t burst, uint64_t offer);
 
 /* --- The receiver of mode B --- */
 

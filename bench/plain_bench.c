@@ -61,7 +61,7 @@ static void draw_traffic(size_t length)
         text[j] = TRAFFIC[below(32)];
 }
 
-/* --- The six runs --- */
+/* --- The seven runs --- */
 
 static uint32_t run_meaning(uint64_t times)
 {
@@ -124,15 +124,12 @@ static uint32_t run_print(uint64_t times, size_t length)
     return sum;
 }
 
-static uint32_t run_step(uint64_t times)
+static uint32_t keeps[SCHEDULE];    /* the burst on the way is masked by it */
+static uint64_t offers[SCHEDULE];
+
+static void draw_schedule(void)
 {
-    static uint32_t keeps[SCHEDULE];    /* the burst on the way is masked by it */
-    static uint32_t offers[SCHEDULE];
     static const uint32_t DAMAGED[3] = { 0xFFFF00, 0xFF00FF, 0x00FFFF };
-    struct station stations[2];         /* master, slave */
-    step_answer given;
-    uint32_t on_the_way = 0;
-    uint32_t sum = 0;
 
     for (size_t j = 0; j < SCHEDULE; j++) {
         uint32_t damage = below(16);
@@ -151,23 +148,25 @@ static uint32_t run_step(uint64_t times)
         else
             offers[j] = offer_of(OFFER_NOTHING, 0);
     }
+}
 
-    stations[0] = plain_fresh_master();
-    stations[0].count = 32;
-    given = plain_step(&stations[0], 0, offer_of(OFFER_NOTHING, 0));
-    sum = mix(mix(sum, step_refusal(given)), step_value(given));
-    stations[0] = plain_fresh_master();
-    given = plain_step(&stations[0], 0, offer_of(OFFER_TEXT, burst_of(0, 71, 71)));
-    sum = mix(mix(sum, step_refusal(given)), step_value(given));
+/* Two stations in turn, the first to begin with; after `anew` steps they are as at
+ * the beginning. */
+static inline uint32_t run_pair(uint64_t times, size_t anew, const struct station *first,
+                                uint32_t first_burst, uint32_t sum)
+{
+    struct station stations[2];
+    uint32_t on_the_way = 0;
 
     for (uint64_t i = 0; i < times; i++) {
         size_t j = i % SCHEDULE;
         struct station *hearer = &stations[j % 2];
+        step_answer given;
 
-        if (j % 256 == 0) {
-            stations[0] = plain_fresh_master();
-            stations[1] = plain_fresh_slave();
-            on_the_way = burst_of(WORD_CS1, 0, 0);
+        if (j % anew == 0) {
+            stations[0] = first[0];
+            stations[1] = first[1];
+            on_the_way = first_burst;
         }
         given = plain_step(hearer, on_the_way & keeps[j], offers[j]);
         on_the_way = step_sent(given);
@@ -176,6 +175,44 @@ static uint32_t run_step(uint64_t times)
                        + (step_taken(given) + 2u * hearer->place) * 16777216);
     }
     return sum;
+}
+
+static uint32_t mix_step_refused(uint32_t sum, step_answer given)
+{
+    return mix(mix(sum, step_refusal(given)), step_value(given));
+}
+
+static uint32_t run_step(uint64_t times)
+{
+    struct station stations[2] = { plain_fresh_master(), plain_fresh_slave() };
+    struct station unsound = plain_fresh_master();
+    uint32_t sum = 0;
+
+    draw_schedule();
+    unsound.count = 32;
+    sum = mix_step_refused(sum, plain_step(&unsound, 0, offer_of(OFFER_NOTHING, 0)));
+    sum = mix_step_refused(sum, plain_step(&stations[0], 0,
+                                           offer_of(OFFER_TEXT, burst_of(0, 71, 71))));
+    return run_pair(times, 256, stations, burst_of(WORD_CS1, 0, 0), sum);
+}
+
+/* The first station, D O C K, calls the second, V X Q Z, anew every eight steps. */
+static uint32_t run_call(uint64_t times)
+{
+    struct station stations[2];
+    struct station master = plain_fresh_master();
+    uint32_t called = identity_of(60, 58, 46, 99);
+    uint32_t sum = 0;
+
+    draw_schedule();
+    for (size_t j = 0; j < SCHEDULE; j += 8)
+        offers[j] = offer_of(OFFER_CALL, called);
+    sum = mix_refusal(sum, plain_standing_by(&stations[0], identity_of(60, 101, 46, 99)));
+    sum = mix_step_refused(sum, plain_step(&master, 0,
+                                           offer_of(OFFER_CALL, identity_of(60, 58, 101, 99))));
+    plain_standing_by(&stations[0], identity_of(83, 113, 29, 30));
+    plain_standing_by(&stations[1], called);
+    return run_pair(times, 8, stations, 0, sum);
 }
 
 static uint32_t run_slot(uint64_t times, size_t length)
@@ -234,8 +271,8 @@ static uint32_t run_receive(uint64_t times)
 
 int main(void)
 {
-    static const char *const NAMES[7] = {
-        "", "meaning", "encode", "print", "step", "slot", "receive"
+    static const char *const NAMES[8] = {
+        "", "meaning", "encode", "print", "step", "slot", "receive", "call"
     };
     unsigned call;
     uint64_t times;
@@ -243,8 +280,8 @@ int main(void)
     uint32_t sum;
 
     if (scanf("%u %" SCNu64 " %" SCNu64, &call, &times, &length) != 3
-        || call < 1 || call > 6) {
-        fputs("usage: CALL N L on standard input, CALL 1 to 6\n", stderr);
+        || call < 1 || call > 7) {
+        fputs("usage: CALL N L on standard input, CALL 1 to 7\n", stderr);
         return 2;
     }
     if (length > SIZE)
@@ -255,7 +292,8 @@ int main(void)
     case 3: sum = run_print(times, (size_t)length); break;
     case 4: sum = run_step(times); break;
     case 5: sum = run_slot(times, (size_t)length); break;
-    default: sum = run_receive(times); break;
+    case 6: sum = run_receive(times); break;
+    default: sum = run_call(times); break;
     }
     printf("%s %" PRIu32 "\n", NAMES[call], sum);
     return 0;

@@ -147,49 +147,68 @@ static const char *const CASES[2] = { "letters", "figures" };
 
 /* --- steps --- */
 
+static int same_station(const struct station *one, const struct station *two)
+{
+    return one->held == two->held && one->place == two->place
+           && one->second == two->second && one->total == two->total
+           && one->count == two->count && one->heard == two->heard
+           && one->slave == two->slave && one->cycles == two->cycles
+           && one->last == two->last && one->own == two->own
+           && one->other == two->other && one->known == two->known;
+}
+
 static void steps(void)
 {
-    static const char *const PLACES[8] = {
+    static const char *const PLACES[9] = {
         "sending", "turning", "opening", "ending",
-        "receiving", "asking", "standby", "lost"
+        "receiving", "asking", "standby", "lost", "calling"
     };
 
     read_input();
-    for (size_t at = 0; size - at >= 17; at += 17) {
+    for (size_t at = 0; size - at >= 32; at += 32) {
         const uint8_t *r = input + at;
+        const unsigned place = r[1] % 9;
+        const unsigned kind = r[13] % 5;
         struct station s = {
-            .held = burst_of(r[3], r[4], r[5]), .place = r[1] % 8,
+            .held = place == PLACE_CALLING ? low_first(r + 3, 4) : low_first(r + 3, 3),
+            .place = (uint8_t)place,
             .second = r[2] % 2 == 0, .total = r[6], .count = r[7],
             .heard = (r[8] % 2 ? HEARD_FIGURES : 0) | (r[9] % 2 ? HEARD_PLUS : 0),
-            .slave = r[0] % 2
+            .slave = r[0] % 2, .cycles = r[17], .last = r[18] % 3,
+            .own = low_first(r + 19, 4), .other = low_first(r + 24, 4), .known = r[23] % 2
         };
         const struct station was = s;
-        step_answer given = plain_step(&s, burst_of(r[10], r[11], r[12]),
-                                       offer_of(r[13] % 4, burst_of(r[14], r[15], r[16])));
+        step_answer given = plain_step(&s, low_first(r + 10, 3),
+                                       offer_of(kind, kind == OFFER_CALL ? low_first(r + 28, 4)
+                                                                         : low_first(r + 14, 3)));
         uint32_t sent = step_sent(given);
         uint32_t printed = step_printed(given);
         uint32_t held = s.place == PLACE_SENDING ? s.held : 0;
+        uint32_t to = s.place == PLACE_CALLING ? s.held : 0;
+        uint32_t other = s.known ? s.other : 0;
         int numbered = s.place == PLACE_SENDING || s.place == PLACE_TURNING
                        || s.place == PLACE_ENDING || s.place == PLACE_RECEIVING;
+        int calls = s.place == PLACE_STANDBY || s.place == PLACE_CALLING;
 
         if (step_refusal(given) != 0) {
-            int changed = s.held != was.held || s.place != was.place
-                          || s.second != was.second || s.total != was.total
-                          || s.count != was.count || s.heard != was.heard
-                          || s.slave != was.slave;
-
             put("refused %u %u%s\n", step_refusal(given), step_value(given),
-                   changed ? " and changed" : "");
+                   same_station(&s, &was) ? "" : " and changed");
             continue;
         }
-        put("%s %d %u %u %u %d %d %s %d | %u %u %u | %u %u %u | %u%s\n",
-               PLACES[s.place % 8], numbered ? s.second + 1 : 0,
+        put("%s %d %u %u %u %d %d %s %d | %u %u %u | %u %u %u | %u"
+            " | %s %d %d %u %u %u %u %s %u %u %u %u%s\n",
+               PLACES[s.place % 9], numbered ? s.second + 1 : 0,
                word_of(held, 0), word_of(held, 1), word_of(held, 2),
                s.place == PLACE_ENDING ? s.total : 0, s.count,
                CASES[s.heard & HEARD_FIGURES ? 1 : 0], s.heard & HEARD_PLUS ? 1 : 0,
                word_of(sent, 0), word_of(sent, 1), word_of(sent, 2),
                word_of(printed, 0), word_of(printed, 1), word_of(printed, 2),
-               step_taken(given), s.slave == was.slave ? "" : " and the role changed");
+               step_taken(given), s.slave ? "slave" : "master",
+               calls ? s.cycles : 0, calls ? s.last : 0,
+               word_of(to, 0), word_of(to, 1), word_of(to, 2), word_of(to, 3),
+               s.known ? "four" : "nobody",
+               word_of(other, 0), word_of(other, 1), word_of(other, 2), word_of(other, 3),
+               s.own == was.own ? "" : " and the own identity changed");
     }
 }
 
@@ -407,6 +426,7 @@ static size_t head_of(uint8_t kind)
     case 'S': return 7;
     case 'M': return 2;
     case 'R': return 11;
+    case 'I': return 5;
     default: return 0;
     }
 }
@@ -446,6 +466,20 @@ static void call_slot(const uint8_t *r, size_t length)
         put("refused %u %u\n", answer_refusal(given), answer_value(given));
     else
         put("ok %u\n", answer_value(given));
+}
+
+static void call_standing_by(const uint8_t *r)
+{
+    struct station s = plain_fresh_master();
+    const struct station was = s;
+    const struct station wanted = { .place = PLACE_STANDBY, .slave = 1, .own = low_first(r + 1, 4) };
+    answer given = plain_standing_by(&s, low_first(r + 1, 4));
+
+    if (answer_refusal(given) != 0)
+        put("refused %u %u%s\n", answer_refusal(given), answer_value(given),
+               same_station(&s, &was) ? "" : " and changed");
+    else
+        put("ok%s\n", same_station(&s, &wanted) ? "" : " and another station");
 }
 
 static void call_receive(const uint8_t *r)
@@ -513,6 +547,7 @@ static void calls(void)
         case 'S': call_slot(r, length); break;
         case 'M': put("%u %u\n", plain_meaning(r[1]), plain_intact(r[1])); break;
         case 'R': call_receive(r); break;
+        case 'I': call_standing_by(r); break;
         default: call_text(r, room_length, length); break;
         }
         at += head + length;

@@ -8,28 +8,48 @@ from collections import namedtuple
 
 ROOT = os.path.dirname(os.path.dirname(os.path.dirname(os.path.abspath(__file__))))
 
-PLACES = ("sending", "turning", "opening", "ending", "receiving", "asking", "standby", "lost")
+PLACES = ("sending", "turning", "opening", "ending", "receiving", "asking", "standby", "lost", "calling")
 KINDS = ("cs1-block", "cs1", "cs2-block", "cs2", "cs3-block", "cs3", "rqs", "rq", "block", "turn", "alphas", "else")
-OFFERS = ("nothing", "text", "over", "end")
+OFFERS = ("nothing", "text", "over", "end", "call")
 MASTER, SLAVE = 0, 1
+ROLES = ("master", "slave")
 
 ALPHA, BETA, RQ, CS1, CS2, CS3 = 15, 51, 102, 101, 106, 89
 SILENCE = (0, 0, 0)
 TRAFFIC = [word for word in range(128) if bin(word).count("1") == 4 and word not in (ALPHA, BETA, RQ)]
 
-# A station as `steps` writes it; a field that the place does not carry is 0.
-Station = namedtuple("Station", "role place number held total count case plus")
+# Identities: the letters of table 3a, as signals.
+NO_IDENTITY = (0, 0, 0, 0)
+DOCK, VXQZ = (83, 113, 29, 30), (60, 58, 46, 99)
+
+# A station as `steps` writes it, and its own identity, which that does not show; a field that the place does not carry is 0. `other` is an
+# identity, or None for nobody.
+Station = namedtuple("Station", "role place number held total count case plus cycles last to own other")
+# The words of a text, or the identity of a call.
 Offer = namedtuple("Offer", "what words")
 Answer = namedtuple("Answer", "station sent printed taken")
 
 NOTHING = Offer("nothing", SILENCE)
 
 
+def at_place(role, place, number=0, held=SILENCE, total=0, count=0, cycles=0, last=0, to=NO_IDENTITY, own=NO_IDENTITY):
+    return Station(role, place, number, held, total, count, "letters", 0, cycles, last, to, own, None)
+
+
 def fresh(role):
     """01: a fresh master is at Opening, a fresh slave Receiving and awaits 1."""
-    if role == MASTER:
-        return Station(role, "opening", 0, SILENCE, 0, 0, "letters", 0)
-    return Station(role, "receiving", 1, SILENCE, 0, 0, "letters", 0)
+    return at_place(role, "opening") if role == MASTER else at_place(role, "receiving", 1)
+
+
+def standing(own):
+    """A station at Stand-by that is called by this identity."""
+    return at_place(SLAVE, "standby", own=own)
+
+
+def call_blocks(identity):
+    """The two call blocks of an identity."""
+    one, two, three, four = identity
+    return (one, RQ, two), (three, four, RQ)
 
 
 FIRST_BURST = (CS1, 0, 0)       # 01: a fresh slave's first burst is CS1
@@ -93,27 +113,34 @@ def words(name, some):
 
 
 def record(station, burst, offer):
-    return bytes((station.role, PLACES.index(station.place), station.number) + station.held
-                 + (station.total, station.count, station.case == "figures", station.plus) + burst
-                 + (OFFERS.index(offer.what),) + offer.words)
+    called = offer.what == "call"
+    return bytes((station.role, PLACES.index(station.place), station.number)
+                 + (station.to if station.place == "calling" else station.held + (station.total,))
+                 + (station.count, station.case == "figures", station.plus) + burst
+                 + (OFFERS.index(offer.what),) + (SILENCE if called else offer.words)
+                 + (station.cycles, station.last) + station.own
+                 + (station.other is not None,) + (station.other or NO_IDENTITY)
+                 + (offer.words if called else NO_IDENTITY))
 
 
 @functools.lru_cache(1 << 16)
-def answer(role, line):
+def answer(own, line):
     if not line.endswith("\n"):
         raise NotRun("./telex --built steps ended before it had answered")
     if line.startswith("refused"):
         raise SystemExit("a step was refused: " + line)
-    place, sent, printed, taken = [part.split() for part in line.split("|")]
+    place, sent, printed, taken, calls = [part.split() for part in line.split("|")]
     number, *held = [int(field) for field in place[1:5]]
     total, count, plus = int(place[5]), int(place[6]), int(place[8])
-    return Answer(Station(role, place[0], number, tuple(held), total, count, place[7], plus),
+    cycles, last, *to = [int(field) for field in calls[1:7]]
+    other = None if calls[7] == "nobody" else tuple(map(int, calls[8:]))
+    return Answer(Station(ROLES.index(calls[0]), place[0], number, tuple(held), total, count, place[7], plus, cycles, last, tuple(to), own, other),
                   tuple(map(int, sent)), tuple(int(word) for word in printed if word != "0"), taken == ["1"])
 
 
 class Steps:
     """The program `steps`, kept running."""
-    AT_ONCE = 4096 // 17    # so many records of 17 bytes any pipe takes whole: the answers to all before have been read by then
+    AT_ONCE = 4096 // 32    # so many records of 32 bytes any pipe takes whole: the answers to all before have been read by then
 
     def __enter__(self):
         self.process = started(subprocess.Popen, "./telex", "--built", "steps", stdin=subprocess.PIPE, stdout=subprocess.PIPE)
@@ -136,20 +163,23 @@ class Steps:
                 self.process.stdin.flush()
             except OSError as fault:
                 raise NotRun("./telex --built steps takes no more records: %s" % fault.strerror)
-            answers += [answer(one[0].role, self.process.stdout.readline().decode("ascii")) for one in some]
+            answers += [answer(one[0].own, self.process.stdout.readline().decode("ascii")) for one in some]
         return answers
 
 
 class Circuit:
-    """A master and a slave. Bursts alternate; who hears one answers it, and the other hears the answer."""
+    """A fresh master and a fresh slave, or two stations at Stand-by, of which the first calls the second. Bursts alternate; who hears one
+    answers it, and the other hears the answer."""
 
-    def __init__(self):
-        self.stations = [fresh(MASTER), fresh(SLAVE)]
-        self.on_the_way, self.hearer = FIRST_BURST, MASTER
+    def __init__(self, by_call=False):
+        self.stations = [standing(DOCK), standing(VXQZ)] if by_call else [fresh(MASTER), fresh(SLAVE)]
+        self.on_the_way, self.hearer = SILENCE if by_call else FIRST_BURST, MASTER
+        self.to_call = by_call      # whether the call is still to be placed
 
     def answered(self, reply):
         self.stations[self.hearer] = reply.station
         self.on_the_way, self.hearer = reply.sent, 1 - self.hearer
+        self.to_call = False
 
 
 def pick(chance, some):
@@ -164,8 +194,13 @@ def damaged(chance, burst, rate):
 IN_TEXT = TRAFFIC + [BETA, CS1, CS2, CS3] * 4       # words that are a control signal's are chosen more often
 
 
-def offered(chance):
-    what = pick(chance, ("nothing", "text", "text", "text", "over", "over", "end"))
+def offered(chance, circuit):
+    """A call begins a circuit by call; later one may be offered where it is not placed, which is at every place but Stand-by."""
+    what = pick(chance, ("nothing", "text", "text", "text", "over", "over", "end", "call"))
+    if circuit.to_call:
+        return Offer("call", VXQZ)
+    if what == "call":
+        return NOTHING if circuit.stations[circuit.hearer].place == "standby" else Offer("call", VXQZ)
     if what != "text":
         return Offer(what, SILENCE)
     return Offer(what, tuple(pick(chance, IN_TEXT) for _ in range(3)))
@@ -179,16 +214,16 @@ def seen(steps, circuits=400, events=2000):
     """The cells that the stations of a long run came to: (place, kind) heard, and how many steps it was."""
     chance = random.Random(625)
     heard = set()
-    runs, rates = [Circuit() for _ in range(circuits)], [[0, 0] for _ in range(circuits)]
+    runs, rates = [Circuit(number % 2 == 1) for number in range(circuits)], [[0, 0] for _ in range(circuits)]
     for _ in range(events):
         asked = []
         for number, circuit in enumerate(runs):
             if {station.place for station in circuit.stations} <= {"standby", "lost"} and chance.random() < 0.1:
-                circuit = runs[number] = Circuit()
+                circuit = runs[number] = Circuit(number % 2 == 1)
             if chance.random() < REDRAWN:
                 rates[number][circuit.hearer] = pick(chance, RATES)
             burst = damaged(chance, circuit.on_the_way, rates[number][circuit.hearer])
-            asked.append((circuit.stations[circuit.hearer], burst, offered(chance)))
+            asked.append((circuit.stations[circuit.hearer], burst, offered(chance, circuit)))
             heard.add((asked[-1][0].place, burst))
         for circuit, reply in zip(runs, steps.all(asked)):
             circuit.answered(reply)

@@ -1,11 +1,15 @@
 // Runs one call many times on pseudo-random input and writes a check-sum of its answers (docs/COST.md, docs/FORMATS.md).
 use filters::Stream;
+use mode_a::Identity;
 use mode_a::Offer;
+use mode_a::Own;
+use mode_a::Peer;
 use mode_a::Place;
 use mode_a::Reply;
 use mode_a::Role;
 use mode_a::Station;
 use mode_a::Stepped;
+use mode_a::Stood;
 use mode_a::Words;
 use mode_b::Hearing;
 use mode_b::Phasing;
@@ -207,7 +211,7 @@ fn is_blank(bytes: &[u8], from: usize) -> bool {
 }
 
 fn may_run(call: u64, length: u64) -> bool {
-    if 6 < call {
+    if 7 < call {
         return false;
     }
     length <= 8192
@@ -475,6 +479,7 @@ fn mix_refused(sum: u64, stepped: Stepped) -> u64 {
         Stepped::Done(_) => sum,
         Stepped::BadStation(_) => mix_refusal(sum, 4, 0),
         Stepped::BadWord(index, _) => mix_refusal(sum, 3, index as u64),
+        Stepped::BadCall(index, _) => mix_refusal(sum, 8, index as u64),
     }
 }
 
@@ -537,6 +542,10 @@ fn run_step(times: u64) -> u64 {
         count: 32,
         case: Case::Letters,
         plus: false,
+        own: Own {
+            four: Identity(0, 0, 0, 0),
+        },
+        other: Peer::Nobody,
     };
     let bad_station = station::step(unsound, mode_a::SILENCE, Offer::Nothing);
     let bad_offer = station::step(
@@ -548,6 +557,78 @@ fn run_step(times: u64) -> u64 {
         times,
         &steps,
         mix_refused(mix_refused(0, bad_station), bad_offer),
+    )
+}
+
+// --- step, at Stand-by and Calling ---
+
+const DOCK: Identity = Identity(83, 113, 29, 30);
+
+const VXQZ: Identity = Identity(60, 58, 46, 99);
+
+fn standing(identity: Identity) -> Station {
+    match Station::standing_by(identity) {
+        Stood::By(s) => s,
+        // not reached: every signal of the two is of table 3a
+        Stood::BadIdentity(_) => Station::fresh_slave(),
+    }
+}
+
+fn standing_pair(sum: u64) -> Pair {
+    Pair {
+        hearer: standing(DOCK),
+        sender: standing(VXQZ),
+        burst: mode_a::SILENCE,
+        sum: sum,
+    }
+}
+
+// What is offered at each step: at the first of eight the call, then as in a circuit.
+fn call_offer_of(j: usize, kind: u8, words: Words) -> Offer {
+    if j % 8 == 0 {
+        return Offer::Call(VXQZ);
+    }
+    offer_of(j, kind, words)
+}
+
+fn call_often(times: u64, steps: &[u8], from: u64) -> u64 {
+    let mut pair = standing_pair(from);
+    let mut i: u64 = 0;
+    while i < times {
+        let j = (i % 4096) as usize;
+        if j % 8 == 0 {
+            pair = standing_pair(pair.sum);
+        }
+        let at = 5 * j;
+        if at + 4 < steps.len() {
+            let words = Words(steps[at + 2], steps[at + 3], steps[at + 4]);
+            pair = exchanged(pair, steps[at], call_offer_of(j, steps[at + 1], words));
+        }
+        i += 1;
+    }
+    pair.sum
+}
+
+fn mix_stood(sum: u64, stood: Stood) -> u64 {
+    match stood {
+        Stood::By(_) => sum,
+        Stood::BadIdentity(index) => mix_refusal(sum, 8, index as u64),
+    }
+}
+
+fn run_call(times: u64) -> u64 {
+    let mut steps = [0u8; 20480];
+    fill(&mut steps, Filling::Plan);
+    let bad_identity = Station::standing_by(Identity(60, 101, 46, 99));
+    let bad_call = station::step(
+        Station::fresh_master(),
+        mode_a::SILENCE,
+        Offer::Call(Identity(60, 58, 101, 99)),
+    );
+    call_often(
+        times,
+        &steps,
+        mix_refused(mix_stood(0, bad_identity), bad_call),
     )
 }
 
@@ -720,7 +801,8 @@ fn run(stream: Stream, output: &mut [u8], asked: Asked) {
             b"slot ",
             run_slot(asked.times, asked.length),
         ),
-        _ => answer(stream, output, b"receive ", run_receive(asked.times)),
+        6 => answer(stream, output, b"receive ", run_receive(asked.times)),
+        _ => answer(stream, output, b"call ", run_call(asked.times)),
     }
 }
 
@@ -747,6 +829,6 @@ fn main() {
     }
     filters::tell(
         b"bench",
-        b"no such call: the input is CALL N L, CALL 1 to 6, L at most 8192",
+        b"no such call: the input is CALL N L, CALL 1 to 7, L at most 8192",
     );
 }

@@ -1,5 +1,8 @@
 // One public call a record, so that rooms, cases, lengths and receivers can be tried that no filter reaches (docs/FORMATS.md).
 use filters::Stream;
+use mode_a::Identity;
+use mode_a::Station;
+use mode_a::Stood;
 use mode_b::Heard;
 use mode_b::Hearing;
 use mode_b::Phase;
@@ -246,11 +249,21 @@ fn put_received(line: &mut [u8], head: &[u8; 10]) -> usize {
     }
 }
 
+// A call of kind I.
+fn put_stood(line: &mut [u8], head: &[u8; 10]) -> usize {
+    let stood = Station::standing_by(Identity(head[0], head[1], head[2], head[3]));
+    match stood {
+        Stood::By(_) => numbers::put_all(line, 0, b"ok"),
+        Stood::BadIdentity(index) => filters::put_refusal(line, 0, 8, index as u64),
+    }
+}
+
 // A call of another kind.
 fn put_other(line: &mut [u8], kind: u8, head: &[u8; 10], list: &[u8]) -> usize {
     match kind {
         b'S' => put_slot(line, sending::slot(list, four_bytes(head))),
         b'M' => put_meaning(line, head[0]),
+        b'I' => put_stood(line, head),
         _ => put_received(line, head),
     }
 }
@@ -264,6 +277,7 @@ fn head_length(kind: u8) -> usize
         b'S' => 6,
         b'M' => 1,
         b'R' => 10,
+        b'I' => 4,
         _ => 0,
     }
 }

@@ -12,11 +12,12 @@ use Rattle.mode_a.specs.declared.Number.{Number}
 use Rattle.mode_a.specs.declared.Number.the-variants.{One, Two}
 use Rattle.mode_a.specs.declared.Words.{Words}
 use Rattle.mode_a.specs.declared.Place.{Place}
-use Rattle.mode_a.specs.declared.Place.the-variants.{Sending, Turning, Opening, Ending, Receiving, Asking, StandBy, Lost}
+use Rattle.mode_a.specs.declared.Place.the-variants.{Sending, Turning, Opening, Ending, Receiving, Asking, StandBy, Lost, Calling}
+use Rattle.mode_a.specs.declared.Peer.the-variants.{Nobody}
 use Rattle.mode_a.specs.declared.Offer.{Offer}
 use Rattle.mode_a.specs.declared.Station.{Station}
 use Rattle.mode_a.specs.declared.Reply.{Reply}
-use Rattle.mode_a.specs.Station.{words, single, silence, RQ×3, same}
+use Rattle.mode_a.specs.Station.{words, single, silence, RQ×3, same, noIdentity}
 use Rattle.mode_a.specs.Step.{stepping}
 
 -- T E A is held, and E E E is offered
@@ -28,7 +29,15 @@ next = words 86 86 86
 
 sending1 : Station
 sending1 =
-    record { role = Master; place = Sending (record { number = One; block = tea }); count = 0; case = Letters; plus = false }
+    record {
+      role = Master;
+      place = Sending (record { number = One; block = tea });
+      count = 0;
+      case = Letters;
+      plus = false;
+      own = noIdentity;
+      other = Nobody;
+    }
 
 alike : Words → Words → Bool
 alike x y = eqb (x .0) (y .0) && (eqb (x .1) (y .1) && eqb (x .2) (y .2))
@@ -40,8 +49,9 @@ holding Opening n b = false
 holding (Ending e) n b = false
 holding (Receiving m) n b = false
 holding Asking n b = false
-holding StandBy n b = false
+holding (StandBy w) n b = false
 holding Lost n b = false
+holding (Calling c) n b = false
 
 -- the step is not refused; it sends these, holds the block under the number, and has the count
 does : Words → Words → Number → Words → ℕ → Bool

@@ -1,12 +1,16 @@
-// Runs 01's worked examples that are not proved, a byte that has no signal, and the limits of printing and of mode B, and writes what each gives.
+// Runs 01's worked examples that are not proved, a byte that has no signal, a call of two stations, and the limits of printing and of mode B, and writes what each gives.
 use filters::Stream;
+use mode_a::Identity;
 use mode_a::Number;
 use mode_a::Offer;
+use mode_a::Own;
+use mode_a::Peer;
 use mode_a::Place;
 use mode_a::Reply;
 use mode_a::Role;
 use mode_a::Station;
 use mode_a::Stepped;
+use mode_a::Stood;
 use mode_a::Words;
 use mode_b::Hearing;
 use mode_b::Phasing;
@@ -94,8 +98,11 @@ fn print_limits(line: &mut [u8], at: usize) -> usize {
 
 fn put_place(line: &mut [u8], at: usize, place: Place) -> usize {
     match place {
+        Place::Sending(_) => numbers::put_all(line, at, b"Sending"),
         Place::Receiving(_) => numbers::put_all(line, at, b"Receiving"),
+        Place::StandBy(_) => numbers::put_all(line, at, b"Stand-by"),
         Place::Lost => numbers::put_all(line, at, b"Lost"),
+        Place::Calling(_) => numbers::put_all(line, at, b"Calling"),
         _ => numbers::put_all(line, at, b"elsewhere"),
     }
 }
@@ -118,22 +125,27 @@ fn put_stepped(line: &mut [u8], at: usize, stepped: Stepped) -> usize {
         Stepped::Done(reply) => put_reply(line, at, reply),
         Stepped::BadStation(_) => filters::put_refusal(line, at, 4, 0),
         Stepped::BadWord(index, _) => filters::put_refusal(line, at, 3, index as u64),
+        Stepped::BadCall(index, _) => filters::put_refusal(line, at, 8, index as u64),
     }
 }
 
-// A slave that has repeated 31 times.
-fn repeated_31() -> Station {
+// A slave that has repeated so often.
+fn repeated(count: u8) -> Station {
     Station {
         role: Role::Slave,
         place: Place::Receiving(Number::One),
-        count: 31,
+        count,
         case: Case::Letters,
         plus: false,
+        own: Own {
+            four: Identity(0, 0, 0, 0),
+        },
+        other: Peer::Nobody,
     }
 }
 
 fn step_line(line: &mut [u8], at: usize, about: &[u8], burst: Words) -> usize {
-    let stepped = station::step(repeated_31(), burst, Offer::Nothing);
+    let stepped = station::step(repeated(31), burst, Offer::Nothing);
     let mut to = numbers::put_all(line, at, about);
     to = put_stepped(line, to, stepped);
     numbers::put(line, to, 10)
@@ -142,6 +154,164 @@ fn step_line(line: &mut [u8], at: usize, about: &[u8], burst: Words) -> usize {
 fn count_31(line: &mut [u8], at: usize) -> usize {
     let to = step_line(line, at, b"count 31 and a good block: ", Words(116, 86, 51));
     step_line(line, to, b"count 31 and a bad one: ", Words(116, 0, 51))
+}
+
+// The identities D O C K and V X Q Z: the station that has the first calls the second.
+const DOCK: Identity = Identity(83, 113, 29, 30);
+
+const VXQZ: Identity = Identity(60, 58, 46, 99);
+
+fn put_stood(line: &mut [u8], at: usize, stood: Stood) -> usize {
+    match stood {
+        Stood::By(s) => {
+            let place = s.place;
+            put_place(line, at, place)
+        }
+        Stood::BadIdentity(index) => filters::put_refusal(line, at, 8, index as u64),
+    }
+}
+
+fn stood_line(line: &mut [u8], at: usize, about: &[u8], identity: Identity) -> usize {
+    let mut to = numbers::put_all(line, at, about);
+    to = put_stood(line, to, Station::standing_by(identity));
+    numbers::put(line, to, 10)
+}
+
+fn identities(line: &mut [u8], at: usize) -> usize {
+    let to = stood_line(line, at, b"standing by as V X Q Z: ", VXQZ);
+    stood_line(
+        line,
+        to,
+        b"standing by as V X L Z: ",
+        Identity(60, 58, 101, 99),
+    )
+}
+
+fn call_line(line: &mut [u8], at: usize, about: &[u8], count: u8, identity: Identity) -> usize {
+    let stepped = station::step(repeated(count), mode_a::SILENCE, Offer::Call(identity));
+    let mut to = numbers::put_all(line, at, about);
+    to = put_stepped(line, to, stepped);
+    numbers::put(line, to, 10)
+}
+
+// 8 is judged before 4, and at every place.
+fn refused_calls(line: &mut [u8], at: usize) -> usize {
+    let to = call_line(line, at, b"count 32 and a call to V X Q Z: ", 32, VXQZ);
+    call_line(
+        line,
+        to,
+        b"count 32 and a call to V X Q G: ",
+        32,
+        Identity(60, 58, 46, 53),
+    )
+}
+
+// Two stations, the burst that the one called has sent, and the place past what was put.
+pub struct Pair {
+    pub caller: Station,
+    pub called: Station,
+    pub burst: Words,
+    pub at: usize,
+}
+
+fn put_burst(line: &mut [u8], at: usize, burst: Words) -> usize {
+    let mut to = numbers::put_number(line, at, burst.0);
+    to = numbers::put(line, to, 32);
+    to = numbers::put_number(line, to, burst.1);
+    to = numbers::put(line, to, 32);
+    numbers::put_number(line, to, burst.2)
+}
+
+// What a step sends, whether it printed, and the place it leads to.
+fn put_answer(line: &mut [u8], at: usize, reply: Reply) -> usize {
+    let station = reply.station;
+    let place = station.place;
+    let sent = reply.sent;
+    let printed = reply.printed;
+    let mut to = put_burst(line, at, sent);
+    if printed.0 != 0 {
+        to = numbers::put_all(line, to, b", accepted and printed");
+    }
+    to = numbers::put_all(line, to, b", ");
+    put_place(line, to, place)
+}
+
+// A line: what both stations answer.
+fn put_both(line: &mut [u8], at: usize, about: &[u8], one: Reply, two: Reply) -> usize {
+    let mut to = numbers::put_all(line, at, about);
+    to = put_answer(line, to, one);
+    to = numbers::put_all(line, to, b"; ");
+    to = put_answer(line, to, two);
+    numbers::put(line, to, 10)
+}
+
+fn heard(burst: Words, damaged: bool) -> Words {
+    if damaged {
+        return Words(burst.0, 0, burst.2);
+    }
+    burst
+}
+
+// The caller hears what is on the way and is offered something, and the other hears its burst.
+fn exchange(line: &mut [u8], pair: Pair, about: &[u8], offer: Offer, damaged: bool) -> Pair {
+    let caller = pair.caller;
+    let called = pair.called;
+    let burst = pair.burst;
+    let one = fields::reply_of(station::step(caller, burst, offer));
+    let sent = one.sent;
+    let two = fields::reply_of(station::step(called, heard(sent, damaged), Offer::Nothing));
+    let caller_after = one.station;
+    let called_after = two.station;
+    let answered = two.sent;
+    Pair {
+        caller: caller_after,
+        called: called_after,
+        burst: answered,
+        at: put_both(line, pair.at, about, one, two),
+    }
+}
+
+fn standing(identity: Identity) -> Station {
+    match Station::standing_by(identity) {
+        Stood::By(s) => s,
+        // not reached: every signal of the two is of table 3a
+        Stood::BadIdentity(_) => Station::fresh_slave(),
+    }
+}
+
+// The call blocks in turn, the second of them damaged: it takes two more.
+fn calls(line: &mut [u8], at: usize) -> Pair {
+    let pair = Pair {
+        caller: standing(DOCK),
+        called: standing(VXQZ),
+        burst: mode_a::SILENCE,
+        at,
+    };
+    let one = exchange(line, pair, b"call, exchange 1: ", Offer::Call(VXQZ), false);
+    let two = exchange(
+        line,
+        one,
+        b"call, exchange 2, the burst damaged: ",
+        Offer::Nothing,
+        true,
+    );
+    let three = exchange(line, two, b"call, exchange 3: ", Offer::Nothing, false);
+    exchange(line, three, b"call, exchange 4: ", Offer::Nothing, false)
+}
+
+// A call of two stations at Stand-by: after two CS1 the caller goes on to traffic.
+fn worked_call(line: &mut [u8], at: usize) -> usize {
+    let pair = calls(line, at);
+    let one = exchange(line, pair, b"call, exchange 5: ", Offer::Nothing, false);
+    let two = exchange(
+        line,
+        one,
+        b"call, exchange 6, TEA offered: ",
+        Offer::Text(Words(116, 86, 71)),
+        false,
+    );
+    let three = exchange(line, two, b"call, exchange 7: ", Offer::Nothing, false);
+    three.at
 }
 
 fn put_slots(line: &mut [u8], at: usize, slots: usize) -> usize {
@@ -205,17 +375,20 @@ fn main() {
         return;
     }
     // all lines, which come to less
-    let mut lines = [0u8; 1024];
+    let mut lines = [0u8; 2048];
     let mut at = small_letter(&mut lines, 0);
     at = text(&mut lines, at);
     at = encode_limits(&mut lines, at);
     at = print_limits(&mut lines, at);
     at = count_31(&mut lines, at);
+    at = identities(&mut lines, at);
+    at = refused_calls(&mut lines, at);
+    at = worked_call(&mut lines, at);
     at = lengths(&mut lines, at);
     at = longer(&mut lines, at);
     at = send_limits(&mut lines, at);
     at = search_run_4(&mut lines, at);
-    let mut output = [0u8; 1024];
+    let mut output = [0u8; 2048];
     Stream::new()
         .put_line(&mut output, &lines, at)
         .finish(&output, b"examples");

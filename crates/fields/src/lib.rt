@@ -36,7 +36,7 @@ pub fn put_flag(line: &mut [u8], at: usize, flag: bool) -> usize {
 
 // The place's number in a record.
 pub fn place_no(place: Place) -> u64
-    ensures { λ r. ⌜ r < 8 ⌝ }
+    ensures { λ r. ⌜ r < 9 ⌝ }
 {
     match place {
         Place::Sending(_) => 0,
@@ -45,8 +45,9 @@ pub fn place_no(place: Place) -> u64
         Place::Ending(_) => 3,
         Place::Receiving(_) => 4,
         Place::Asking => 5,
-        Place::StandBy => 6,
+        Place::StandBy(_) => 6,
         Place::Lost => 7,
+        Place::Calling(_) => 8,
     }
 }
 
@@ -58,8 +59,9 @@ pub fn put_place(line: &mut [u8], at: usize, place: Place) -> usize {
         Place::Ending(_) => numbers::put_all(line, at, b"ending"),
         Place::Receiving(_) => numbers::put_all(line, at, b"receiving"),
         Place::Asking => numbers::put_all(line, at, b"asking"),
-        Place::StandBy => numbers::put_all(line, at, b"standby"),
+        Place::StandBy(_) => numbers::put_all(line, at, b"standby"),
         Place::Lost => numbers::put_all(line, at, b"lost"),
+        Place::Calling(_) => numbers::put_all(line, at, b"calling"),
     }
 }
 
@@ -69,6 +71,7 @@ pub fn reply_of(stepped: Stepped) -> Reply {
         Stepped::Done(reply) => reply,
         Stepped::BadStation(s) => silent(s),
         Stepped::BadWord(_, s) => silent(s),
+        Stepped::BadCall(_, s) => silent(s),
     }
 }
 

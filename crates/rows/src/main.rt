@@ -1,14 +1,18 @@
 // Writes the table of actions, a line a cell, then the kind of each burst of three bytes that it reads (docs/FORMATS.md).
 use filters::Stream;
+use mode_a::Called;
 use mode_a::Ended;
 use mode_a::Held;
+use mode_a::Identity;
+use mode_a::Mark;
 use mode_a::Number;
 use mode_a::Place;
+use mode_a::Waiting;
 use mode_a::Words;
 use table::Action;
 use table::Kind;
 
-// The places and the kinds in 01's order. What a place holds does not choose its row.
+// The places and the kinds in 01's order, and Calling behind them. What a place holds does not choose its row.
 fn place_at(no: u64) -> Place {
     match no {
         0 => Place::Sending(Held {
@@ -23,8 +27,16 @@ fn place_at(no: u64) -> Place {
         }),
         4 => Place::Receiving(Number::One),
         5 => Place::Asking,
-        6 => Place::StandBy,
-        _ => Place::Lost,
+        6 => Place::StandBy(Waiting {
+            wait: 0,
+            heard: Mark::None,
+        }),
+        7 => Place::Lost,
+        _ => Place::Calling(Called {
+            to: Identity(0, 0, 0, 0),
+            sent: 1,
+            last: Mark::None,
+        }),
     }
 }
 
@@ -104,7 +116,12 @@ fn action_no(action: Action) -> u64 {
         Action::Finish => 16,
         Action::Cs3Again => 17,
         Action::Open => 18,
-        Action::Silent => 19,
+        Action::Listen => 19,
+        Action::Silent => 20,
+        Action::Called1 => 21,
+        Action::Called2 => 22,
+        Action::CallStops => 23,
+        Action::CallOn => 24,
     }
 }
 
@@ -114,7 +131,7 @@ fn put_action(line: &mut [u8], at: usize, action: Action) -> usize {
     put_name(
         line,
         to,
-        b"asked-1 asked-2 turn rqs turn-again receive receive-if-slave take-1 take-2 stand-by request ended-1 ended-2 end-again accept ask-again finish cs3-again open silent ",
+        b"asked-1 asked-2 turn rqs turn-again receive receive-if-slave take-1 take-2 stand-by request ended-1 ended-2 end-again accept ask-again finish cs3-again open listen silent called-1 called-2 call-stops call-on ",
         action_no(action),
     )
 }
@@ -131,7 +148,7 @@ fn put_cell(stream: Stream, output: &mut [u8], place: Place, kind: Kind) -> Stre
 fn put_table(first: Stream, output: &mut [u8]) -> Stream {
     let mut stream = first;
     let mut cell: u64 = 0;
-    while cell < 96 {
+    while cell < 108 {
         stream = put_cell(stream, output, place_at(cell / 12), kind_at(cell % 12));
         cell += 1;
     }

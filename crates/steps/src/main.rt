@@ -1,22 +1,36 @@
 // One step a record of a station that is written out, so that stations can be tried that no run reaches (docs/FORMATS.md).
 use filters::Stream;
+use mode_a::Called;
 use mode_a::Ended;
 use mode_a::Held;
+use mode_a::Identity;
+use mode_a::Mark;
 use mode_a::Number;
 use mode_a::Offer;
+use mode_a::Own;
+use mode_a::Peer;
 use mode_a::Place;
 use mode_a::Reply;
 use mode_a::Role;
 use mode_a::Station;
 use mode_a::Stepped;
+use mode_a::Waiting;
 use mode_a::Words;
 
-// What a line shows of a place after its name: 0 for a field that the place does not carry.
+// What a line shows of a place after its name, and of a call at its end: 0 for a field that the place does not carry.
 pub struct Fields {
     pub number: u8,
     pub held: Words,
     pub total: u8,
 }
+
+pub struct CallFields {
+    pub cycles: u8,
+    pub last: u8,
+    pub to: Identity,
+}
+
+const NO_IDENTITY: Identity = Identity(0, 0, 0, 0);
 
 fn role_of(byte: u8) -> Role {
     if byte % 2 == 0 {
@@ -32,9 +46,17 @@ fn number_of(byte: u8) -> Number {
     Number::One
 }
 
-fn place_of(record: &[u8; 17]) -> Place {
+fn mark_of(byte: u8) -> Mark {
+    match byte % 3 {
+        0 => Mark::None,
+        1 => Mark::One,
+        _ => Mark::Two,
+    }
+}
+
+fn place_of(record: &[u8; 32]) -> Place {
     let number = number_of(record[2]);
-    match record[1] % 8 {
+    match record[1] % 9 {
         0 => Place::Sending(Held {
             number: number,
             block: Words(record[3], record[4], record[5]),
@@ -47,27 +69,47 @@ fn place_of(record: &[u8; 17]) -> Place {
         }),
         4 => Place::Receiving(number),
         5 => Place::Asking,
-        6 => Place::StandBy,
-        _ => Place::Lost,
+        6 => Place::StandBy(Waiting {
+            wait: record[17],
+            heard: mark_of(record[18]),
+        }),
+        7 => Place::Lost,
+        _ => Place::Calling(Called {
+            to: Identity(record[3], record[4], record[5], record[6]),
+            sent: record[17],
+            last: mark_of(record[18]),
+        }),
     }
 }
 
-fn station_of(record: &[u8; 17]) -> Station {
+fn other_of(record: &[u8; 32]) -> Peer {
+    if record[23] % 2 == 0 {
+        return Peer::Nobody;
+    }
+    Peer::Four(Identity(record[24], record[25], record[26], record[27]))
+}
+
+fn station_of(record: &[u8; 32]) -> Station {
     Station {
         role: role_of(record[0]),
         place: place_of(record),
         count: record[7],
         case: fields::case_of(record[8]),
         plus: record[9] % 2 == 1,
+        own: Own {
+            four: Identity(record[19], record[20], record[21], record[22]),
+        },
+        other: other_of(record),
     }
 }
 
-fn offer_of(record: &[u8; 17]) -> Offer {
-    match record[13] % 4 {
+fn offer_of(record: &[u8; 32]) -> Offer {
+    match record[13] % 5 {
         0 => Offer::Nothing,
         1 => Offer::Text(Words(record[14], record[15], record[16])),
         2 => Offer::Over,
-        _ => Offer::End,
+        3 => Offer::End,
+        _ => Offer::Call(Identity(record[28], record[29], record[30], record[31])),
     }
 }
 
@@ -77,10 +119,25 @@ fn put_words(line: &mut [u8], at: usize, words: Words) -> usize {
     fields::put_number(line, two, words.2)
 }
 
+fn put_identity(line: &mut [u8], at: usize, identity: Identity) -> usize {
+    let one = fields::put_number(line, at, identity.0);
+    let two = fields::put_number(line, one, identity.1);
+    let three = fields::put_number(line, two, identity.2);
+    fields::put_number(line, three, identity.3)
+}
+
 fn number_in(number: Number) -> u8 {
     match number {
         Number::One => 1,
         Number::Two => 2,
+    }
+}
+
+fn mark_in(mark: Mark) -> u8 {
+    match mark {
+        Mark::None => 0,
+        Mark::One => 1,
+        Mark::Two => 2,
     }
 }
 
@@ -123,8 +180,46 @@ fn fields_of(place: Place) -> Fields {
         }
         Place::Receiving(number) => numbered(number),
         Place::Asking => bare(),
-        Place::StandBy => bare(),
+        Place::StandBy(_) => bare(),
         Place::Lost => bare(),
+        Place::Calling(_) => bare(),
+    }
+}
+
+fn no_call() -> CallFields {
+    CallFields {
+        cycles: 0,
+        last: 0,
+        to: NO_IDENTITY,
+    }
+}
+
+fn call_fields_of(place: Place) -> CallFields {
+    match place {
+        Place::Sending(_) => no_call(),
+        Place::Turning(_) => no_call(),
+        Place::Opening => no_call(),
+        Place::Ending(_) => no_call(),
+        Place::Receiving(_) => no_call(),
+        Place::Asking => no_call(),
+        Place::StandBy(waiting) => {
+            let heard = waiting.heard;
+            CallFields {
+                cycles: waiting.wait,
+                last: mark_in(heard),
+                to: NO_IDENTITY,
+            }
+        }
+        Place::Lost => no_call(),
+        Place::Calling(called) => {
+            let last = called.last;
+            let to = called.to;
+            CallFields {
+                cycles: called.sent,
+                last: mark_in(last),
+                to,
+            }
+        }
     }
 }
 
@@ -142,6 +237,37 @@ fn put_station(line: &mut [u8], s: Station) -> usize {
     fields::put_flag(line, at, s.plus)
 }
 
+fn put_role(line: &mut [u8], at: usize, role: Role) -> usize {
+    match role {
+        Role::Master => numbers::put_all(line, at, b" master"),
+        Role::Slave => numbers::put_all(line, at, b" slave"),
+    }
+}
+
+fn put_other(line: &mut [u8], at: usize, other: Peer) -> usize {
+    match other {
+        Peer::Nobody => numbers::put_all(line, at, b" nobody 0 0 0 0"),
+        Peer::Four(identity) => {
+            let to = numbers::put_all(line, at, b" four");
+            put_identity(line, to, identity)
+        }
+    }
+}
+
+// The role, what the place has of a call, and who is at the other end.
+fn put_calls(line: &mut [u8], from: usize, s: Station) -> usize {
+    let role = s.role;
+    let place = s.place;
+    let other = s.other;
+    let shown = call_fields_of(place);
+    let to = shown.to;
+    let mut at = put_role(line, from, role);
+    at = fields::put_number(line, at, shown.cycles);
+    at = fields::put_number(line, at, shown.last);
+    at = put_identity(line, at, to);
+    put_other(line, at, other)
+}
+
 fn put_reply(line: &mut [u8], reply: Reply) -> usize {
     let station = reply.station;
     let sent = reply.sent;
@@ -152,7 +278,9 @@ fn put_reply(line: &mut [u8], reply: Reply) -> usize {
     at = numbers::put_all(line, at, b" |");
     at = put_words(line, at, printed);
     at = numbers::put_all(line, at, b" |");
-    fields::put_flag(line, at, reply.taken)
+    at = fields::put_flag(line, at, reply.taken);
+    at = numbers::put_all(line, at, b" |");
+    put_calls(line, at, station)
 }
 
 fn put_answer(line: &mut [u8], stepped: Stepped) -> usize {
@@ -160,14 +288,15 @@ fn put_answer(line: &mut [u8], stepped: Stepped) -> usize {
         Stepped::Done(reply) => put_reply(line, reply),
         Stepped::BadStation(_) => filters::put_refusal(line, 0, 4, 0),
         Stepped::BadWord(index, _) => filters::put_refusal(line, 0, 3, index as u64),
+        Stepped::BadCall(index, _) => filters::put_refusal(line, 0, 8, index as u64),
     }
 }
 
-fn answer(stream: Stream, output: &mut [u8], record: &[u8; 17]) -> Stream {
+fn answer(stream: Stream, output: &mut [u8], record: &[u8; 32]) -> Stream {
     let burst = Words(record[10], record[11], record[12]);
     let stepped = station::step(station_of(record), burst, offer_of(record));
     // no line comes to be full
-    let mut line = [0u8; 96];
+    let mut line = [0u8; 160];
     let mut at = put_answer(&mut line, stepped);
     at = numbers::put(&mut line, at, 10);
     stream.put_line(output, &line, at)
@@ -175,10 +304,10 @@ fn answer(stream: Stream, output: &mut [u8], record: &[u8; 17]) -> Stream {
 
 // The next record read and answered. A short last one is ignored.
 fn turn(stream: Stream, input: &mut [u8], output: &mut [u8]) -> Stream {
-    let mut record = [0u8; 17];
-    let read = stream.record(input, output, &mut record, 17);
+    let mut record = [0u8; 32];
+    let read = stream.record(input, output, &mut record, 32);
     let after = read.stream;
-    if read.count != 17 {
+    if read.count != 32 {
         return after;
     }
     answer(after, output, &record)
