@@ -6,7 +6,8 @@ ghost use Rattle.mode_a.specs.Calls.{isCallable, nextBlock};
 ghost use Rattle.mode_a.specs.Station.{marks};
 ghost use Rattle.mode_a.specs.Heard.{Cs, callOf};
 ghost use Rattle.mode_a.specs.Rows.{bothHeard, callsOn, calling};
-ghost use Rattle.calling.specs.Carried.{waitingIn, calledIn, listening};
+ghost use Rattle.carried.specs.Carried.{waitingIn, calledIn};
+ghost use Rattle.calling.specs.Listening.{listening};
 use mode_a::Called;
 use mode_a::Doing;
 use mode_a::Identity;
@@ -17,51 +18,6 @@ use mode_a::Place;
 use mode_a::Station;
 use mode_a::Waiting;
 use mode_a::Words;
-
-const UNHEARD: Waiting = Waiting {
-    wait: 0,
-    heard: Mark::None,
-};
-
-const UNCALLED: Called = Called {
-    to: Identity(0, 0, 0, 0),
-    sent: 0,
-    last: Mark::None,
-};
-
-// What Stand-by carries.
-fn waiting_in(place: Place) -> Waiting
-    ensures { λ r. ⌜ r ≡ waitingIn place ⌝ }
-{
-    match place {
-        Place::Sending(_) => UNHEARD,
-        Place::Turning(_) => UNHEARD,
-        Place::Opening => UNHEARD,
-        Place::Ending(_) => UNHEARD,
-        Place::Receiving(_) => UNHEARD,
-        Place::Asking => UNHEARD,
-        Place::StandBy(waiting) => waiting,
-        Place::Lost => UNHEARD,
-        Place::Calling(_) => UNHEARD,
-    }
-}
-
-// What Calling carries.
-fn called_in(place: Place) -> Called
-    ensures { λ r. ⌜ r ≡ calledIn place ⌝ }
-{
-    match place {
-        Place::Sending(_) => UNCALLED,
-        Place::Turning(_) => UNCALLED,
-        Place::Opening => UNCALLED,
-        Place::Ending(_) => UNCALLED,
-        Place::Receiving(_) => UNCALLED,
-        Place::Asking => UNCALLED,
-        Place::StandBy(_) => UNCALLED,
-        Place::Lost => UNCALLED,
-        Place::Calling(called) => called,
-    }
-}
 
 // The mark, where all four signals are of table 3a: a station with another identity, or with none, hears no call.
 fn if_callable(four: Identity, mark: Mark) -> Mark
@@ -110,7 +66,7 @@ pub fn listening(place: Place, own: Own, burst: Words) -> Doing
     ensures { λ r. ⌜ r ≡ listening (waitingIn place) (callOf (own .four) burst) ⌝ }
 {
     let four = own.four;
-    let w = waiting_in(place);
+    let w = carried::waiting_in(place);
     let before = w.heard;
     let heard = call_of(four, burst);
     if both_heard(before, heard) {
@@ -136,7 +92,7 @@ fn next_block(to: Identity, sent: u8) -> Words
 pub fn calls_on(place: Place, heard: Mark) -> Doing
     ensures { λ r. ⌜ r ≡ callsOn (calledIn place) heard ⌝ }
 {
-    let c = called_in(place);
+    let c = carried::called_in(place);
     let to = c.to;
     let sent = c.sent;
     if Station::CALLS <= sent {
@@ -173,7 +129,7 @@ fn marks(last: Mark, number: Number) -> bool
 pub fn called(place: Place, number: Number) -> Doing
     ensures { λ r. ⌜ r ≡ calling (calledIn place) (Cs number) ⌝ }
 {
-    let c = called_in(place);
+    let c = carried::called_in(place);
     let to = c.to;
     let last = c.last;
     if marks(last, number) {

@@ -1,5 +1,4 @@
--- What each action of the table does at a place, and at Stand-by with which of the own call blocks was heard. Where a place carries no
--- number, block or total, or neither a wait nor a call, none of its actions asks for it. Assumes nothing.
+-- What each action of the table does at a place, and at Stand-by with which of the own call blocks was heard. Assumes nothing.
 use Prim.Native.Nat.{ℕ, _+_}
 use lib.Dec.{leb}
 use Rattle.laws.specs.Choice.{if_then_else_}
@@ -11,47 +10,15 @@ use Rattle.mode_a.specs.declared.Number.the-variants.{One, Two}
 use Rattle.mode_a.specs.declared.Words.{Words}
 use Rattle.mode_a.specs.declared.Mark.{Mark}
 use Rattle.mode_a.specs.declared.Place.{Place}
-use Rattle.mode_a.specs.declared.Place.the-variants.{Sending, Turning, Opening, Ending, Receiving, Asking, StandBy, Lost, Calling}
+use Rattle.mode_a.specs.declared.Place.the-variants.{Turning, Ending}
 use Rattle.mode_a.specs.declared.Doing.{Doing}
 use Rattle.mode_a.specs.declared.Doing.the-variants.{Repeats, Goes, Takes, Receives, Opens, Accepts, Rests}
 use Rattle.mode_a.specs.Station.{single, silence, βαβ, ααα, RQ×3, other, same, asksFor}
 use Rattle.mode_a.specs.Heard.{Cs}
 use Rattle.mode_a.specs.Rows.{requests, calling, callsOn}
-use Rattle.calling.specs.Carried.{waitingIn, calledIn, listening}
+use Rattle.carried.specs.Carried.{numberIn, blockIn, totalIn, waitingIn, calledIn}
+use Rattle.calling.specs.Listening.{listening}
 use Rattle.table.specs.declared.Action.{Action}
-
-abbrev pub numberIn : Place → Number
-numberIn (Sending h) = h .number
-numberIn (Turning n) = n
-numberIn Opening = One
-numberIn (Ending e) = e .number
-numberIn (Receiving n) = n
-numberIn Asking = One
-numberIn (StandBy w) = One
-numberIn Lost = One
-numberIn (Calling c) = One
-
-abbrev pub blockIn : Place → Words
-blockIn (Sending h) = h .block
-blockIn (Turning n) = silence
-blockIn Opening = silence
-blockIn (Ending e) = silence
-blockIn (Receiving n) = silence
-blockIn Asking = silence
-blockIn (StandBy w) = silence
-blockIn Lost = silence
-blockIn (Calling c) = silence
-
-abbrev pub totalIn : Place → ℕ
-totalIn (Sending h) = 0
-totalIn (Turning n) = 0
-totalIn Opening = 0
-totalIn (Ending e) = e .total
-totalIn (Receiving n) = 0
-totalIn Asking = 0
-totalIn (StandBy w) = 0
-totalIn Lost = 0
-totalIn (Calling c) = 0
 
 abbrev pub asked : Number → Number → Words → Doing
 asked m n b = if same m n then Repeats b else Takes (other n)

@@ -3,7 +3,7 @@
 ghost use mathlib.Core.Path.{_≡_};
 ghost use Rattle.mode_a.specs.Heard.{callOf};
 ghost use Rattle.mode_a.specs.Rows.{requests};
-ghost use Rattle.moves.specs.Moves.{numberIn, blockIn, totalIn, asked, endsAgain, ended, doingOf};
+ghost use Rattle.moves.specs.Moves.{asked, endsAgain, ended, doingOf};
 use mode_a::Doing;
 use mode_a::Ended;
 use mode_a::Mark;
@@ -14,57 +14,6 @@ use mode_a::Role;
 use mode_a::Station;
 use mode_a::Words;
 use table::Action;
-
-// The number that a place carries; where it carries none, no action asks for it.
-fn number_in(place: Place) -> Number
-    ensures { λ r. ⌜ r ≡ numberIn place ⌝ }
-{
-    match place {
-        Place::Sending(held) => held.number,
-        Place::Turning(number) => number,
-        Place::Opening => Number::One,
-        Place::Ending(ended) => ended.number,
-        Place::Receiving(number) => number,
-        Place::Asking => Number::One,
-        Place::StandBy(_) => Number::One,
-        Place::Lost => Number::One,
-        Place::Calling(_) => Number::One,
-    }
-}
-
-// The block that Sending holds.
-fn block_in(place: Place) -> Words
-    ensures { λ r. ⌜ r ≡ blockIn place ⌝ }
-{
-    match place {
-        Place::Sending(held) => held.block,
-        Place::Turning(_) => mode_a::SILENCE,
-        Place::Opening => mode_a::SILENCE,
-        Place::Ending(_) => mode_a::SILENCE,
-        Place::Receiving(_) => mode_a::SILENCE,
-        Place::Asking => mode_a::SILENCE,
-        Place::StandBy(_) => mode_a::SILENCE,
-        Place::Lost => mode_a::SILENCE,
-        Place::Calling(_) => mode_a::SILENCE,
-    }
-}
-
-// How often Ending has sent ααα.
-fn total_in(place: Place) -> u8
-    ensures { λ r. ⌜ r ≡ totalIn place ⌝ }
-{
-    match place {
-        Place::Sending(_) => 0,
-        Place::Turning(_) => 0,
-        Place::Opening => 0,
-        Place::Ending(ended) => ended.total,
-        Place::Receiving(_) => 0,
-        Place::Asking => 0,
-        Place::StandBy(_) => 0,
-        Place::Lost => 0,
-        Place::Calling(_) => 0,
-    }
-}
 
 // One RQ if master, three if slave.
 pub fn requests(role: Role) -> Words
@@ -116,10 +65,10 @@ fn ended(heard: Number, number: Number, total: u8) -> Doing
 pub fn doing(action: Action, role: Role, place: Place, own: Own, burst: Words) -> Doing
     ensures { λ r. ⌜ r ≡ doingOf action role place (callOf (own .four) burst) ⌝ }
 {
-    let number = number_in(place);
+    let number = carried::number_in(place);
     match action {
-        Action::Asked1 => asked(Number::One, number, block_in(place)),
-        Action::Asked2 => asked(Number::Two, number, block_in(place)),
+        Action::Asked1 => asked(Number::One, number, carried::block_in(place)),
+        Action::Asked2 => asked(Number::Two, number, carried::block_in(place)),
         Action::Turn => Doing::Goes(Place::Turning(number), mode_a::TURN),
         Action::Rqs => Doing::Repeats(mode_a::RQS),
         Action::TurnAgain => Doing::Repeats(mode_a::TURN),
@@ -132,9 +81,9 @@ pub fn doing(action: Action, role: Role, place: Place, own: Own, burst: Words) -
         Action::Take2 => Doing::Takes(Number::Two),
         Action::StandBy => Doing::Rests(0, mode_a::SILENCE),
         Action::Request => Doing::Repeats(requests(role)),
-        Action::Ended1 => ended(Number::One, number, total_in(place)),
-        Action::Ended2 => ended(Number::Two, number, total_in(place)),
-        Action::EndAgain => ends_again(number, total_in(place)),
+        Action::Ended1 => ended(Number::One, number, carried::total_in(place)),
+        Action::Ended2 => ended(Number::Two, number, carried::total_in(place)),
+        Action::EndAgain => ends_again(number, carried::total_in(place)),
         Action::Accept => Doing::Accepts(number),
         Action::AskAgain => Doing::Repeats(number.asks()),
         Action::Finish => Doing::Rests(0, number.other().asks()),

@@ -27,6 +27,7 @@ use Rattle.mode_a.specs.declared.Words.{Words}
 use Rattle.mode_a.specs.declared.Identity.{Identity}
 use Rattle.mode_a.specs.declared.Own.{Own}
 use Rattle.mode_a.specs.declared.Waiting.{Waiting}
+use Rattle.mode_a.specs.declared.Called.{Called}
 use Rattle.mode_a.specs.declared.Place.{Place}
 use Rattle.mode_a.specs.declared.Offer.{Offer}
 use Rattle.mode_a.specs.declared.Station.{Station}
@@ -42,7 +43,8 @@ use Rattle.table.specs.declared.Kind.{Kind}
 use Rattle.table.specs.declared.Action.{Action}
 use Rattle.table.specs.Kinds.{kindOf, columnOf}
 use Rattle.table.specs.Actions.{actionOf}
-use Rattle.calling.specs.Carried.{waitingIn, calledIn, listening}
+use Rattle.carried.specs.Carried.{numberIn, blockIn, totalIn, waitingIn, calledIn}
+use Rattle.calling.specs.Listening.{listening}
 use Rattle.moves.specs.Moves.{doingOf}
 
 -- `signals::rows`: that there are 35 rows is the answer's type, `[Row; 35]`, and `Rows` says what each is
@@ -109,6 +111,22 @@ column-of-unique kind r r′ p q = unique p q
 
 pub action-at-unique : (place : Place) (kind : Kind) (r r′ : Action) → r ≡ actionOf place kind → r′ ≡ actionOf place kind → r ≡ r′
 action-at-unique place kind r r′ p q = unique p q
+
+-- `carried`: what a place carries
+pub number-in-unique : (place : Place) (r r′ : Number) → r ≡ numberIn place → r′ ≡ numberIn place → r ≡ r′
+number-in-unique place r r′ p q = unique p q
+
+pub block-in-unique : (place : Place) (r r′ : Words) → r ≡ blockIn place → r′ ≡ blockIn place → r ≡ r′
+block-in-unique place r r′ p q = unique p q
+
+pub total-in-unique : (place : Place) (r r′ : ℕ) → r ≡ totalIn place → r′ ≡ totalIn place → r ≡ r′
+total-in-unique place r r′ p q = unique p q
+
+pub waiting-in-unique : (place : Place) (r r′ : Waiting) → r ≡ waitingIn place → r′ ≡ waitingIn place → r ≡ r′
+waiting-in-unique place r r′ p q = unique p q
+
+pub called-in-unique : (place : Place) (r r′ : Called) → r ≡ calledIn place → r′ ≡ calledIn place → r ≡ r′
+called-in-unique place r r′ p q = unique p q
 
 -- `calling::listening`, `calling::calls_on`, `calling::called`
 pub listening-unique : (place : Place) (own : Own) (burst : Words) (r r′ : Doing) → r ≡ listening (waitingIn place) (callOf (own .four) burst) → r′ ≡ listening (waitingIn place) (callOf (own .four) burst) → r ≡ r′

@@ -6,7 +6,7 @@ use Rattle.calling.proofs.called.Statement.{statement}
 use Rattle.calling.proofs.called.Tie as tie
 use Rattle.calling.proofs.called.Reads as reads
 use Rattle.calling.proofs.called.Lts as lts
-use Rattle.calling.proofs.called_in.Reads as called-in-reads
+use Rattle.carried.proofs.called_in.Reads as called-in-reads
 use Rattle.calling.proofs.calls_on.Reads as calls-on-reads
 use Rattle.calling.proofs.marks.Reads as marks-reads
 use Rattle.mode_a.proofs.Number.mark.Reads as mark-reads

@@ -5,7 +5,7 @@ use Rattle.calling.proofs.calls_on.Statement.{statement}
 use Rattle.calling.proofs.calls_on.Tie as tie
 use Rattle.calling.proofs.calls_on.Reads as reads
 use Rattle.calling.proofs.calls_on.Lts as lts
-use Rattle.calling.proofs.called_in.Reads as called-in-reads
+use Rattle.carried.proofs.called_in.Reads as called-in-reads
 use Rattle.calling.proofs.next_block.Reads as next-block-reads
 
 called-in-requires : tie.Need-called-in-requires

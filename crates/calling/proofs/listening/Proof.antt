@@ -6,7 +6,7 @@ use Rattle.calling.proofs.listening.Reads as reads
 use Rattle.calling.proofs.listening.Lts as lts
 use Rattle.calling.proofs.both_heard.Reads as both-heard-reads
 use Rattle.calling.proofs.call_of.Reads as call-of-reads
-use Rattle.calling.proofs.waiting_in.Reads as waiting-in-reads
+use Rattle.carried.proofs.waiting_in.Reads as waiting-in-reads
 
 waiting-in-requires : tie.Need-waiting-in-requires
 waiting-in-requires c κs = search needs

@@ -11,12 +11,12 @@ use Rattle.calling.proofs.listening.Reads as listening-reads
 use Rattle.mode_a.proofs.Number.asks.Reads as asks-reads
 use Rattle.mode_a.proofs.Number.other.Reads as other-reads
 use Rattle.moves.proofs.asked.Reads as asked-reads
-use Rattle.moves.proofs.block_in.Reads as block-in-reads
+use Rattle.carried.proofs.block_in.Reads as block-in-reads
 use Rattle.moves.proofs.ended.Reads as ended-reads
 use Rattle.moves.proofs.ends_again.Reads as ends-again-reads
-use Rattle.moves.proofs.number_in.Reads as number-in-reads
+use Rattle.carried.proofs.number_in.Reads as number-in-reads
 use Rattle.moves.proofs.requests.Reads as requests-reads
-use Rattle.moves.proofs.total_in.Reads as total-in-reads
+use Rattle.carried.proofs.total_in.Reads as total-in-reads
 
 number-in-requires : tie.Need-number-in-requires
 number-in-requires c κs = search needs

@@ -1,9 +1,12 @@
--- `calling::called_in` meets its contract, place by place. Assumes nothing.
+-- `carried::block_in` meets its contract, place by place. Assumes nothing.
 use borrow.Author.Needs.{needs}
-use Rattle.calling.proofs.called_in.Statement.{statement}
-use Rattle.calling.proofs.called_in.Tie as tie
-use Rattle.calling.proofs.called_in.Reads as reads
-use Rattle.calling.proofs.called_in.Lts as lts
+use Rattle.carried.proofs.block_in.Statement.{statement}
+use Rattle.carried.proofs.block_in.Tie as tie
+use Rattle.carried.proofs.block_in.Reads as reads
+use Rattle.carried.proofs.block_in.Lts as lts
+
+enum-known-place : tie.Need-enum-known-place
+enum-known-place c = search needs
 
 enum-told : tie.Need-enum-told
 enum-told c = search needs
@@ -29,40 +32,38 @@ enum-told-7 c = search needs
 enum-told-8 : tie.Need-enum-told-8
 enum-told-8 c = search needs
 
-enum-known-place : tie.Need-enum-known-place
-enum-known-place c = search needs
-
 returns : tie.Need-returns
-returns c = simp (c .enum-told .given .1)
+returns c = search needs
 
 returns-2 : tie.Need-returns-2
-returns-2 c = simp (c .enum-told2 .given .1)
+returns-2 c = simp (c .enum-told .given .1)
 
 returns-3 : tie.Need-returns-3
-returns-3 c = simp (c .enum-told3 .given .1)
+returns-3 c = simp (c .enum-told2 .given .1)
 
 returns-4 : tie.Need-returns-4
-returns-4 c = simp (c .enum-told4 .given .1)
+returns-4 c = simp (c .enum-told3 .given .1)
 
 returns-5 : tie.Need-returns-5
-returns-5 c = simp (c .enum-told5 .given .1)
+returns-5 c = simp (c .enum-told4 .given .1)
 
 returns-6 : tie.Need-returns-6
-returns-6 c = simp (c .enum-told6 .given .1)
+returns-6 c = simp (c .enum-told5 .given .1)
 
 returns-7 : tie.Need-returns-7
-returns-7 c = simp (c .enum-told7 .given .1)
+returns-7 c = simp (c .enum-told6 .given .1)
 
 returns-8 : tie.Need-returns-8
-returns-8 c = simp (c .enum-told8 .given .1)
+returns-8 c = simp (c .enum-told7 .given .1)
 
 returns-9 : tie.Need-returns-9
-returns-9 c = search needs
+returns-9 c = simp (c .enum-told8 .given .1)
 
-pub called-in-spec : {M : Type 1} → statement M
-called-in-spec =
+pub block-in-spec : {M : Type 1} → statement M
+block-in-spec =
     tie.close
     (tie.spec
+    enum-known-place
     enum-told
     enum-told-2
     enum-told-3
@@ -71,7 +72,6 @@ called-in-spec =
     enum-told-6
     enum-told-7
     enum-told-8
-    enum-known-place
     returns
     returns-2
     returns-3

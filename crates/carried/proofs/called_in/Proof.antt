@@ -1,9 +1,9 @@
--- `calling::waiting_in` meets its contract, place by place. Assumes nothing.
+-- `carried::called_in` meets its contract, place by place. Assumes nothing.
 use borrow.Author.Needs.{needs}
-use Rattle.calling.proofs.waiting_in.Statement.{statement}
-use Rattle.calling.proofs.waiting_in.Tie as tie
-use Rattle.calling.proofs.waiting_in.Reads as reads
-use Rattle.calling.proofs.waiting_in.Lts as lts
+use Rattle.carried.proofs.called_in.Statement.{statement}
+use Rattle.carried.proofs.called_in.Tie as tie
+use Rattle.carried.proofs.called_in.Reads as reads
+use Rattle.carried.proofs.called_in.Lts as lts
 
 enum-told : tie.Need-enum-told
 enum-told c = search needs
@@ -23,14 +23,14 @@ enum-told-5 c = search needs
 enum-told-6 : tie.Need-enum-told-6
 enum-told-6 c = search needs
 
-enum-known-place : tie.Need-enum-known-place
-enum-known-place c = search needs
-
 enum-told-7 : tie.Need-enum-told-7
 enum-told-7 c = search needs
 
 enum-told-8 : tie.Need-enum-told-8
 enum-told-8 c = search needs
+
+enum-known-place : tie.Need-enum-known-place
+enum-known-place c = search needs
 
 returns : tie.Need-returns
 returns c = simp (c .enum-told .given .1)
@@ -51,16 +51,16 @@ returns-6 : tie.Need-returns-6
 returns-6 c = simp (c .enum-told6 .given .1)
 
 returns-7 : tie.Need-returns-7
-returns-7 c = search needs
+returns-7 c = simp (c .enum-told7 .given .1)
 
 returns-8 : tie.Need-returns-8
-returns-8 c = simp (c .enum-told7 .given .1)
+returns-8 c = simp (c .enum-told8 .given .1)
 
 returns-9 : tie.Need-returns-9
-returns-9 c = simp (c .enum-told8 .given .1)
+returns-9 c = search needs
 
-pub waiting-in-spec : {M : Type 1} → statement M
-waiting-in-spec =
+pub called-in-spec : {M : Type 1} → statement M
+called-in-spec =
     tie.close
     (tie.spec
     enum-told
@@ -69,9 +69,9 @@ waiting-in-spec =
     enum-told-4
     enum-told-5
     enum-told-6
-    enum-known-place
     enum-told-7
     enum-told-8
+    enum-known-place
     returns
     returns-2
     returns-3

@@ -1,0 +1,3 @@
+-- What the functions of this crate read.
+--     Carried   what each place carries
+pub mod Carried
