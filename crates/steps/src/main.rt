@@ -254,6 +254,12 @@ fn put_other(line: &mut [u8], at: usize, other: Peer) -> usize {
     }
 }
 
+// A part of the line that is three words.
+fn put_part(line: &mut [u8], at: usize, words: Words) -> usize {
+    let to = numbers::put_all(line, at, b" |");
+    put_words(line, to, words)
+}
+
 // The role, what the place has of a call, and who is at the other end.
 fn put_calls(line: &mut [u8], from: usize, s: Station) -> usize {
     let role = s.role;
@@ -261,7 +267,8 @@ fn put_calls(line: &mut [u8], from: usize, s: Station) -> usize {
     let other = s.other;
     let shown = call_fields_of(place);
     let to = shown.to;
-    let mut at = put_role(line, from, role);
+    let mut at = numbers::put_all(line, from, b" |");
+    at = put_role(line, at, role);
     at = fields::put_number(line, at, shown.cycles);
     at = fields::put_number(line, at, shown.last);
     at = put_identity(line, at, to);
@@ -273,13 +280,10 @@ fn put_reply(line: &mut [u8], reply: Reply) -> usize {
     let sent = reply.sent;
     let printed = reply.printed;
     let mut at = put_station(line, station);
-    at = numbers::put_all(line, at, b" |");
-    at = put_words(line, at, sent);
-    at = numbers::put_all(line, at, b" |");
-    at = put_words(line, at, printed);
+    at = put_part(line, at, sent);
+    at = put_part(line, at, printed);
     at = numbers::put_all(line, at, b" |");
     at = fields::put_flag(line, at, reply.taken);
-    at = numbers::put_all(line, at, b" |");
     put_calls(line, at, station)
 }
 
