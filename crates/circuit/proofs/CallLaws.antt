@@ -3,6 +3,7 @@
 --                         or has answered and awaits block 1, or is Lost; nothing is carried
 --     none-calling        and where none is, none comes to be without a call placed
 --     leaves-completed    so what is left is what a completed call leaves
+--     placing-leaves      and it begins with the step that places a call
 -- Assumes nothing.
 use mathlib.Core.Path.{_≡_, refl, ap, sym, subst, _∙_}
 use mathlib.Core.Bool.{Bool, true, false, _||_, and-false, true≢false}
@@ -38,13 +39,13 @@ use Rattle.mode_a.specs.Station.{silence, ααα, asksFor, markOf, marks, resti
 use Rattle.mode_a.specs.Heard.{First, Cs, Else, Heard, firstOf, mayHold, isBlock, isWords, callOf, heardOf}
 use Rattle.mode_a.specs.Over.{listenedAll}
 use Rattle.mode_a.specs.Rows.{rowOf, bothHeard, calling}
-use Rattle.mode_a.specs.Step.{sends, holds, takes, reached, repeats, isOver, done}
+use Rattle.mode_a.specs.Step.{sends, holds, takes, called, waitsOn, listens, reached, repeats, isOver, done}
 use Rattle.runs.specs.Places.{isSending, isEnding, isStandBy, isCalling}
 use Rattle.runs.specs.Runs.{start, _▷_, InOrder, taking}
 use Rattle.runs.proofs.RowLaws.{by-sending, by-turning, by-opening, by-ending, by-receiving, by-asking, by-standing}
 use Rattle.runs.proofs.StepLaws.{Answers as Answered, answers, oneMore, by-repeat, by-take, by-accept, by-listen, standby-answers, standby-listens, lost-stays}
 use Rattle.circuit.specs.Circuit.{Event, heard, Harmless, Run, nothingYet, Circuit, said, placesCall, blockOf, takenIf, confirmedBy, acceptedBy, answeredBy, goesOn, next, after, AllHarmless, NoCallPlaced}
-use Rattle.circuit.specs.Starts.{CallPlaced, Begins, with-block, with-end, CallCompleted, LeavesCompleted}
+use Rattle.circuit.specs.Starts.{CallPlaced, Begins, with-block, with-end, CallCompleted, PlacingLeaves, LeavesCompleted}
 use Rattle.circuit.proofs.DamageLaws.{mangled, no-block, no-words, FirstIs, said as as-said, unsaid, first-heard}
 use Rattle.circuit.proofs.StepLaws.{ααα-signals, asks-first, call-no-block}
 use Rattle.circuit.proofs.RunLaws.{quiet}
@@ -361,3 +362,44 @@ leaves-by i c e h (inl (hears-answer a z n)) p q = go (said c e) refl q
 
 pub leaves-completed : LeavesCompleted
 leaves-completed i c y run a n e h p q = leaves-by i (after c run) e h (in-call-run i c y run a n) p q
+
+-- and the step that places a call leaves what such a run begins with
+placed-by : (i : Identity) (c : Circuit) (b : Words) (o : Offer) (r : Reply) (w : Waiting) → c .hearer .place ≡ StandBy w → o ≡ Offer.Call i → Answered (c .hearer) b o r → r .taken ≡ true → r ≡ called (c .hearer) i
+placed-by i c b o r w p j y t = go (bothHeard (w .heard) (callOf (c .hearer .own .four) b)) refl
+  where
+    go : (u : Bool) → bothHeard (w .heard) (callOf (c .hearer .own .four) b) ≡ u → r ≡ called (c .hearer) i
+    go true e = absurd (true≢false (sym t ∙ ap (λ (r : Reply). r .taken) (standby-answers (c .hearer) b o r y w p e)))
+    go false e =
+        let z = standby-listens (c .hearer) b o r y w p e ∙ ap (listens (c .hearer) (record { wait = w .wait; heard = callOf (c .hearer .own .four) b })) j in
+        go-on (eqb (w .wait) 0) z
+      where
+        go-on : (u : Bool) → r ≡ (if u then called (c .hearer) i else waitsOn (c .hearer) (record { wait = w .wait; heard = callOf (c .hearer .own .four) b })) → r ≡ called (c .hearer) i
+        go-on true z = z
+        go-on false z = absurd (true≢false (sym t ∙ ap (λ (r : Reply). r .taken) z))
+
+pub placing-leaves : PlacingLeaves
+placing-leaves i c e r h s k f g j is t = subst (CallPlaced i) (sym (ap (goesOn c e) is)) (go (c .hearer .place) refl h)
+  where
+    by-place : (w : Waiting) → c .hearer .place ≡ StandBy w → CallPlaced i (answeredBy c (e .offer) (heard e (c .burst)) r)
+    by-place w p =
+        let z = placed-by i c (heard e (c .burst)) (e .offer) r w p j (answers (c .hearer) (heard e (c .burst)) (e .offer) r is) t in
+        record {
+          caller = c .hearer;
+          sender-is = ap (λ (r : Reply). r .station) z;
+          burst-is = ap (λ (r : Reply). r .sent) z;
+          hearer-at = s;
+          hearer-sound = k;
+          none-from-hearer = rw (g, p, z);
+          none-from-sender = rw (f, p);
+        }
+
+    go : (q : Place) → c .hearer .place ≡ q → isStandBy q ≡ true → CallPlaced i (answeredBy c (e .offer) (heard e (c .burst)) r)
+    go (StandBy w) p s = by-place w p
+    go (Sending x) p s = absurd (true≢false (sym s))
+    go (Turning n) p s = absurd (true≢false (sym s))
+    go Opening p s = absurd (true≢false (sym s))
+    go (Ending d) p s = absurd (true≢false (sym s))
+    go (Receiving n) p s = absurd (true≢false (sym s))
+    go Asking p s = absurd (true≢false (sym s))
+    go Lost p s = absurd (true≢false (sym s))
+    go (Calling d) p s = absurd (true≢false (sym s))

@@ -1,7 +1,7 @@
 -- 01, How the promises are judged: a fresh master and a fresh slave of mode A, no third sender: every run of the two.  R-094, R-172
 -- And 02, T-02: two stations of which one has called the other.
 --
--- "its first burst is CS1": the slave's CS1 is on the way when the run starts. Bursts alternate, and each is heard once: the
+-- "its first burst is CS1": the slave's CS1 is on the way when the run of fresh stations starts; after a call the master's burst is. Bursts alternate, and each is heard once: the
 -- station that hears answers, and the other hears that next. An event is what happens to the burst on the way, word by word,
 -- and the offer of the station that hears it.
 --

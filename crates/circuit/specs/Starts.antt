@@ -6,21 +6,24 @@ use mathlib.Core.Bool.{true, false, _||_}
 use mathlib.Core.List.{[], _∷_}
 use lib.Dec.{leb}
 use Rattle.signals.specs.declared.Case.the-variants.{Letters}
+use Rattle.signals.specs.Numbers.{answered}
 use Rattle.mode_a.specs.declared.Role.the-variants.{Master, Slave}
 use Rattle.mode_a.specs.declared.Number.the-variants.{One}
 use Rattle.mode_a.specs.declared.Words.{Words}
 use Rattle.mode_a.specs.declared.Identity.{Identity}
 use Rattle.mode_a.specs.declared.Peer.the-variants.{Four}
 use Rattle.mode_a.specs.declared.Place.the-variants.{Sending, Ending, Receiving}
+use Rattle.mode_a.specs.declared.Offer.{Offer}
 use Rattle.mode_a.specs.declared.Station.{Station}
+use Rattle.mode_a.specs.declared.Reply.{Reply}
 use Rattle.mode_a.specs.Station.{ααα}
 use Rattle.mode_a.specs.Heard.{isBlock}
 use Rattle.mode_a.specs.Step.{sound, called}
 use Rattle.runs.specs.Places.{isSending, isEnding, isStandBy, isCalling}
-use Rattle.circuit.specs.Circuit.{Event, Harmless, Run, nothingYet, Circuit, fresh, next, after, AllHarmless, NoCallPlaced}
+use Rattle.circuit.specs.Circuit.{Event, Harmless, Run, nothingYet, Circuit, fresh, said, next, after, AllHarmless, NoCallPlaced}
 
--- A station at Stand-by has just placed a call, and its first call burst is on the way to a station at Stand-by: whatever that one's
--- identity and whatever it has heard before. Nothing has been carried yet.
+-- What the step that places a call leaves (`called`), whatever the station was and whatever the identity: the first call burst is on the
+-- way to a station at Stand-by, whatever that one's identity and whatever it has heard before. Nothing has been carried yet.
 pub record CallPlaced (i : Identity) (c : Circuit) : Type 0 where
   pub caller : Station
   pub sender-is : c .sender ≡ called caller i .station
@@ -29,6 +32,13 @@ pub record CallPlaced (i : Identity) (c : Circuit) : Type 0 where
   pub hearer-sound : sound (c .hearer) ≡ true
   pub none-from-hearer : c .from-hearer ≡ nothingYet
   pub none-from-sender : c .from-sender ≡ nothingYet
+
+-- "a station at Stand-by that takes a call", facing another at Stand-by: that is what it leaves
+abbrev pub PlacingLeaves : Type 0
+PlacingLeaves =
+    (i : Identity) (c : Circuit) (e : Event) (r : Reply) → isStandBy (c .hearer .place) ≡ true → isStandBy (c .sender .place) ≡ true →
+    sound (c .sender) ≡ true → c .from-hearer ≡ nothingYet → c .from-sender ≡ nothingYet → e .offer ≡ Offer.Call i →
+    said c e ≡ answered r → r .taken ≡ true → CallPlaced i (next c e)
 
 -- What the master has sent as the call is completed: the block that it took, under number 1, or ααα for the first time.
 pub data Begins : Circuit → Type 0 where

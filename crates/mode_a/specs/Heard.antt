@@ -1,6 +1,6 @@
 -- 01, The station: what the rows ask of a burst: its first word, and what its three words are together. Any byte may be heard.
 --
--- Whether a word is a control signal or traffic is told by the place that hears it (R-022): Sending, Opening and Ending read
+-- Whether a word is a control signal or traffic is told by the place that hears it (R-022): Sending, Opening, Ending and Calling read
 -- the first word only and ask what it is as a control signal, whatever follows it; Turning asks for CS3 or RQ first, or three
 -- RQ; Receiving for a block or ααα; Asking for βαβ. Stand-by asks whether the burst is one of the station's own call blocks (02, T-02).
 -- Assumes nothing.

@@ -110,7 +110,8 @@ asking h = if h .turned then Opens else Repeats (single cs3)
 -- Stand-by "hears and places calls" (02, T-02)                                                            R-084
 --     both       "The slave answers CS1 after both blocks in succession."               3.5.5             R-179, R-180
 --                in either order; the same block twice is one
---     all else   a call that is offered is placed, or it is silent                      3.5.4             R-181, R-182, R-188
+--     all else   a call that is offered is placed where no step is left to wait;       3.5.4             R-181, R-182, R-188
+--                else it is silent
 abbrev pub bothHeard : Mark → Mark → Bool
 bothHeard Mark.None m = false
 bothHeard Mark.One Mark.None = false

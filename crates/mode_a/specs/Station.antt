@@ -1,7 +1,7 @@
 -- 01, The station: bursts, numbers, fresh stations; 02, T-02: a station at Stand-by.  R-041, R-042, R-043, R-092, R-093, R-094, R-095
 --
 -- "A station is master or slave, and is at one of these places; the places that send or receive blocks carry their own inner
--- state." "An offer is text (three words), over, end or nothing."  R-044, R-045, R-046: the types Role, Place and Offer of
+-- state." "An offer is text (three words), over, end or nothing", or a call (02, T-02).  R-044, R-045, R-046: the types Role, Place and Offer of
 -- src/lib.rt.
 -- Assumes nothing.
 use mathlib.Core.Path.{_≡_}

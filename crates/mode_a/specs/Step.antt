@@ -36,11 +36,12 @@ use Rattle.mode_a.specs.declared.Listening.{Listening}
 use Rattle.mode_a.specs.Over.{listenedAll, query, cross}
 use Rattle.mode_a.specs.Rows.{rowOf, requests}
 
--- a station at another place, with count 0: "Then, and after every other step, the count is 0."  R-099
+-- the station at a place, with this count, case and +; its role, its identity and who is at the other end stay  R-190
 abbrev pub standsAt : Station → Place → ℕ → Case → Bool → Station
 standsAt s p k c t =
     record { role = s .role; place = p; count = k; case = c; plus = t; own = s .own; other = s .other }
 
+-- at another place, with count 0: "Then, and after every other step, the count is 0."  R-099
 abbrev pub movedTo : Station → Place → Station
 movedTo s p = standsAt s p 0 (s .case) (s .plus)
 

@@ -132,33 +132,33 @@ count-step s b o r (waits w e q) k = ap (λ (r : Reply). r .station .count) q
 count-step s b o r (places w i e z y q) k = ap (λ (r : Reply). r .station .count) q
 count-step s b o r (calls-on c e m q) k = ap (λ (r : Reply). r .station .count) q
 
-module _ (fresh : Station) (not-calling : isCalling (fresh .place) ≡ false) where
-  count-run : (run : Run) → isCalling (after fresh run .place) ≡ true → after fresh run .count ≡ 0
+module _ (from : Station) (not-calling : isCalling (from .place) ≡ false) where
+  count-run : (run : Run) → isCalling (after from run .place) ≡ true → after from run .count ≡ 0
   count-run start k = absurd (true≢false (sym k ∙ not-calling))
   count-run (run ▷ e) k =
-      keeps (λ (s : Station). isCalling (s .place) ≡ true → s .count ≡ 0) (after fresh run) e (λ r p h. count-step (after fresh run) (e .burst) (e .offer) r (does (after fresh run) (e .burst) (e .offer) r p)) (count-run run) k
+      keeps (λ (s : Station). isCalling (s .place) ≡ true → s .count ≡ 0) (after from run) e (λ r p h. count-step (after from run) (e .burst) (e .offer) r (does (after from run) (e .burst) (e .offer) r p)) (count-run run) k
 
-  kept-run : (run : Run) → Kept (after fresh run .place) (callsInARow fresh run) (lastCalled fresh run)
+  kept-run : (run : Run) → Kept (after from run .place) (callsInARow from run) (lastCalled from run)
   unfolding callsInARow lastCalled
-  kept-run start = outside (fresh .place) none not-calling
-  kept-run (run ▷ e) = go (kept-run run) (said (after fresh run) e) refl
+  kept-run start = outside (from .place) none not-calling
+  kept-run (run ▷ e) = go (kept-run run) (said (after from run) e) refl
     where
-      go : Kept (after fresh run .place) (callsInARow fresh run) (lastCalled fresh run) → (a : Answer Reply) → said (after fresh run) e ≡ a → Kept (stationAfter (after fresh run) a .place) (callsOn a (callsInARow fresh run)) (callsTo a (e .offer) (lastCalled fresh run))
-      go k (answered r) p = kept-step (after fresh run) (e .burst) (e .offer) r _ _ k (does (after fresh run) (e .burst) (e .offer) r p)
+      go : Kept (after from run .place) (callsInARow from run) (lastCalled from run) → (a : Answer Reply) → said (after from run) e ≡ a → Kept (stationAfter (after from run) a .place) (callsOn a (callsInARow from run)) (callsTo a (e .offer) (lastCalled from run))
+      go k (answered r) p = kept-step (after from run) (e .burst) (e .offer) r _ _ k (does (after from run) (e .burst) (e .offer) r p)
       go k (refused n v) p = k
 
-  pub at-most-128-in-turn : (run : Run) → InTurn fresh run
+  pub at-most-128-in-turn : (run : Run) → InTurn from run
   unfolding callsInARow lastCalled
   at-most-128-in-turn run =
       record {
         sents = λ c e. sym (ap sentOf e) ∙ kept-run run .is;
-        no-others = λ x. sym (kept-run run .is) ∙ sent-none (after fresh run .place) x;
+        no-others = λ x. sym (kept-run run .is) ∙ sent-none (after from run .place) x;
         to = kept-run run .to;
         count-0 = count-run run;
         at-most = kept-run run .small;
-        no-129th = λ e r p. no-more (after fresh run) (e .burst) (e .offer) r _ _ (kept-run run) (does (after fresh run) (e .burst) (e .offer) r p);
-        in-turn = λ e r p f. rw p (in-turn-step (after fresh run) (e .burst) (e .offer) r _ _ (kept-run run) (does (after fresh run) (e .burst) (e .offer) r p) f);
-        begins = λ e r i p. begins-step (after fresh run) (e .burst) (e .offer) r _ _ (kept-run run) (does (after fresh run) (e .burst) (e .offer) r p) i;
+        no-129th = λ e r p. no-more (after from run) (e .burst) (e .offer) r _ _ (kept-run run) (does (after from run) (e .burst) (e .offer) r p);
+        in-turn = λ e r p f. rw p (in-turn-step (after from run) (e .burst) (e .offer) r _ _ (kept-run run) (does (after from run) (e .burst) (e .offer) r p) f);
+        begins = λ e r i p. begins-step (after from run) (e .burst) (e .offer) r _ _ (kept-run run) (does (after from run) (e .burst) (e .offer) r p) i;
       }
 
 -- what Calling does with a first word
@@ -246,14 +246,14 @@ mark-step s b o r (places w i p z y q) c e =
 mark-step s b o r (calls-on d p m q) c e =
     ap (atCalling (λ c. c .last) Mark.None) (sym e ∙ ap (λ (r : Reply). r .station .place) q) ∙ rw (ap isCalling p)
 
-module _ (fresh : Station) (not-calling : isCalling (fresh .place) ≡ false) where
-  mark-run : (run : Run) (c : Called) → after fresh run .place ≡ Calling c → c .last ≡ lastMark (lastStep fresh run)
+module _ (from : Station) (not-calling : isCalling (from .place) ≡ false) where
+  mark-run : (run : Run) (c : Called) → after from run .place ≡ Calling c → c .last ≡ lastMark (lastStep from run)
   unfolding lastStep
   mark-run start c e = absurd (true≢false (sym (ap isCalling e) ∙ not-calling))
-  mark-run (run ▷ e) c q = go (mark-run run) (said (after fresh run) e) refl c q
+  mark-run (run ▷ e) c q = go (mark-run run) (said (after from run) e) refl c q
     where
-      go : ((c : Called) → after fresh run .place ≡ Calling c → c .last ≡ lastMark (lastStep fresh run)) → (a : Answer Reply) → said (after fresh run) e ≡ a → (c : Called) → stationAfter (after fresh run) a .place ≡ Calling c → c .last ≡ lastMark (stepOr a (record { place = after fresh run .place; burst = e .burst }) (lastStep fresh run))
-      go k (answered r) p = mark-step (after fresh run) (e .burst) (e .offer) r (does (after fresh run) (e .burst) (e .offer) r p)
+      go : ((c : Called) → after from run .place ≡ Calling c → c .last ≡ lastMark (lastStep from run)) → (a : Answer Reply) → said (after from run) e ≡ a → (c : Called) → stationAfter (after from run) a .place ≡ Calling c → c .last ≡ lastMark (stepOr a (record { place = after from run .place; burst = e .burst }) (lastStep from run))
+      go k (answered r) p = mark-step (after from run) (e .burst) (e .offer) r (does (after from run) (e .burst) (e .offer) r p)
       go k (refused n v) p = k
 
 -- the word of a number, and what is kept of it
@@ -298,24 +298,24 @@ heard-marks (some x) n h = rw (h .0, heard-cs (x .burst .0) n (h .1)) (marks-own
 took : (s : Station) (n : Number) (o : Offer) (r : Reply) → r ≡ takes s n o → (inTraffic (r .station .place) ≡ true) × (isStandBy (r .station .place) ≡ false)
 took s n o r q = rw q (by-take (λ (r : Reply). (inTraffic (r .station .place) ≡ true) × (isStandBy (r .station .place) ≡ false)) s n o (λ w t. (refl, refl)) (refl, refl))
 
-module _ (fresh : Station) (not-calling : isCalling (fresh .place) ≡ false) (run : Run) (c : Called) (here : after fresh run .place ≡ Calling c) (e : Event) (r : Reply) (answer : said (after fresh run) e ≡ answered r) where
-  again : Twice fresh run e → Again c (firstOf (e .burst .0))
-  again t = (t .number, heard-cs (e .burst .0) (t .number) (t .now), rw (mark-run fresh not-calling run c here) (heard-marks (lastStep fresh run) (t .number) (t .before)))
+module _ (from : Station) (not-calling : isCalling (from .place) ≡ false) (run : Run) (c : Called) (here : after from run .place ≡ Calling c) (e : Event) (r : Reply) (answer : said (after from run) e ≡ answered r) where
+  again : Twice from run e → Again c (firstOf (e .burst .0))
+  again t = (t .number, heard-cs (e .burst .0) (t .number) (t .now), rw (mark-run from not-calling run c here) (heard-marks (lastStep from run) (t .number) (t .before)))
 
-  twice : Again c (firstOf (e .burst .0)) → Twice fresh run e
+  twice : Again c (firstOf (e .burst .0)) → Twice from run e
   twice a =
       record {
         number = a .0;
-        before = was-heard (lastStep fresh run) (a .0) (rw (mark-run fresh not-calling run c here) at (a .2));
+        before = was-heard (lastStep from run) (a .0) (rw (mark-run from not-calling run c here) at (a .2));
         now = cs-word (e .burst .0) (a .0) (a .1);
       }
 
-  by-way : Way (after fresh run) (e .offer) r c (firstOf (e .burst .0)) → CallEnds fresh run c e r
+  by-way : Way (after from run) (e .offer) r c (firstOf (e .burst .0)) → CallEnds from run c e r
   by-way (reaches a q) =
-      let w = took (reached (after fresh run) (c .to)) (a .0) (e .offer) r q in
+      let w = took (reached (after from run) (c .to)) (a .0) (e .offer) r q in
       record {
         goes-on-exactly = (λ x. twice a, λ x. w .0);
-        goes-on = λ t. q ∙ ap (λ (n : Number). takes (reached (after fresh run) (c .to)) n (e .offer)) (cs-no (a .0) (t .number) (sym (a .1) ∙ heard-cs (e .burst .0) (t .number) (t .now)));
+        goes-on = λ t. q ∙ ap (λ (n : Number). takes (reached (after from run) (c .to)) n (e .offer)) (cs-no (a .0) (t .number) (sym (a .1) ∙ heard-cs (e .burst .0) (t .number) (t .now)));
         fails-exactly = (λ x. absurd (true≢false (sym x ∙ w .1)), λ x. absurd (x .0 (twice a)));
         fails = λ x. absurd (true≢false (sym x ∙ w .1));
         else-calls = λ x. absurd (true≢false (sym (w .0) ∙ x));
@@ -330,10 +330,10 @@ module _ (fresh : Station) (not-calling : isCalling (fresh .place) ≡ false) (r
         else-calls = λ z u. absurd (true≢false (sym (ap isStandBy p) ∙ u));
       }
     where
-      why : (firstOf (e .burst .0) ≡ Cs3) ⊎ (128 ≤ c .sent) → (e .burst .0 ≡ cs3) ⊎ (callsInARow fresh run ≡ 128)
+      why : (firstOf (e .burst .0) ≡ Cs3) ⊎ (128 ≤ c .sent) → (e .burst .0 ≡ cs3) ⊎ (callsInARow from run ≡ 128)
       why (inl f) = inl (cs3-word (e .burst .0) f)
       why (inr l) =
-          let i = at-most-128-in-turn fresh not-calling run in
+          let i = at-most-128-in-turn from not-calling run in
           let j = i .sents c here in
           let m = i .at-most in
           inr (omega arith)
@@ -346,10 +346,10 @@ module _ (fresh : Station) (not-calling : isCalling (fresh .place) ≡ false) (r
         else-calls = λ z u. ap isCalling p;
       }
     where
-      neither : (e .burst .0 ≡ cs3) ⊎ (callsInARow fresh run ≡ 128) → ⊥
+      neither : (e .burst .0 ≡ cs3) ⊎ (callsInARow from run ≡ 128) → ⊥
       neither (inl w) = y (first-cs3 (e .burst .0) w)
-      neither (inr k) = let j = at-most-128-in-turn fresh not-calling run .sents c here in omega arith
+      neither (inr k) = let j = at-most-128-in-turn from not-calling run .sents c here in omega arith
 
-  pub call-ends-exactly : CallEnds fresh run c e r
+  pub call-ends-exactly : CallEnds from run c e r
   call-ends-exactly =
-      by-way (way (after fresh run) (e .burst) (e .offer) r c (firstOf (e .burst .0)) (from-calling (after fresh run) (e .burst) (e .offer) r answer c here))
+      by-way (way (after from run) (e .burst) (e .offer) r c (firstOf (e .burst .0)) (from-calling (after from run) (e .burst) (e .offer) r answer c here))

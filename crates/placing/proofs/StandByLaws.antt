@@ -235,36 +235,36 @@ module _ (i : Identity) (b : Words) where
   tells (some x) k (inr h) = rw (h .0 .0, h .0 .1, h .1, hears-1 i k, hears-2 i k)
 
 -- "The slave answers CS1 after both blocks in succession"
-module _ (fresh : Station) (none-heard : NoneHeard fresh) where
-  mark-run : (run : Run) → isStandBy (after fresh run .place) ≡ true → heardIn (after fresh run .place) ≡ lastMark (fresh .own .four) (lastStep fresh run)
+module _ (from : Station) (none-heard : NoneHeard from) where
+  mark-run : (run : Run) → isStandBy (after from run .place) ≡ true → heardIn (after from run .place) ≡ lastMark (from .own .four) (lastStep from run)
   unfolding lastStep
-  mark-run start h = let w = is-standby (fresh .place) h in ap heardIn (w .1) ∙ none-heard (w .0) (w .1)
-  mark-run (run ▷ e) h = go (mark-run run) (said (after fresh run) e) refl h
+  mark-run start h = let w = is-standby (from .place) h in ap heardIn (w .1) ∙ none-heard (w .0) (w .1)
+  mark-run (run ▷ e) h = go (mark-run run) (said (after from run) e) refl h
     where
-      go : (isStandBy (after fresh run .place) ≡ true → heardIn (after fresh run .place) ≡ lastMark (fresh .own .four) (lastStep fresh run)) → (a : Answer Reply) → said (after fresh run) e ≡ a → isStandBy (stationAfter (after fresh run) a .place) ≡ true → heardIn (stationAfter (after fresh run) a .place) ≡ lastMark (fresh .own .four) (stepOr a (record { place = after fresh run .place; burst = e .burst }) (lastStep fresh run))
+      go : (isStandBy (after from run .place) ≡ true → heardIn (after from run .place) ≡ lastMark (from .own .four) (lastStep from run)) → (a : Answer Reply) → said (after from run) e ≡ a → isStandBy (stationAfter (after from run) a .place) ≡ true → heardIn (stationAfter (after from run) a .place) ≡ lastMark (from .own .four) (stepOr a (record { place = after from run .place; burst = e .burst }) (lastStep from run))
       go k (answered r) p h =
-          mark-step (after fresh run) (e .burst) (e .offer) r (does (after fresh run) (e .burst) (e .offer) r p) h ∙ ap (λ (x : Own). if isStandBy (after fresh run .place) then callOf (x .four) (e .burst) else Mark.None) (own-lasts fresh run)
+          mark-step (after from run) (e .burst) (e .offer) r (does (after from run) (e .burst) (e .offer) r p) h ∙ ap (λ (x : Own). if isStandBy (after from run .place) then callOf (x .four) (e .burst) else Mark.None) (own-lasts from run)
       go k (refused n v) p h = k h
 
-  module _ (run : Run) (w : Waiting) (here : after fresh run .place ≡ StandBy w) (e : Event) (r : Reply) (answer : said (after fresh run) e ≡ answered r) where
-    mark-now : w .heard ≡ lastMark (fresh .own .four) (lastStep fresh run)
+  module _ (run : Run) (w : Waiting) (here : after from run .place ≡ StandBy w) (e : Event) (r : Reply) (answer : said (after from run) e ≡ answered r) where
+    mark-now : w .heard ≡ lastMark (from .own .four) (lastStep from run)
     mark-now = sym (ap heardIn here) ∙ mark-run run (ap isStandBy here)
 
-    both-now : bothHeard (w .heard) (callOf (after fresh run .own .four) (e .burst)) ≡ bothHeard (lastMark (fresh .own .four) (lastStep fresh run)) (callOf (fresh .own .four) (e .burst))
-    both-now = rw (mark-now, own-lasts fresh run)
+    both-now : bothHeard (w .heard) (callOf (after from run .own .four) (e .burst)) ≡ bothHeard (lastMark (from .own .four) (lastStep from run)) (callOf (from .own .four) (e .burst))
+    both-now = rw (mark-now, own-lasts from run)
 
-    heard-so : HearsCall fresh run e r
+    heard-so : HearsCall from run e r
     heard-so =
         record {
-          answers-exactly = (λ x. let h = told (fresh .own .four) (e .burst) (lastStep fresh run) (sym both-now ∙ sym receives ∙ x) in record { is-callable = h .0; in-succession = h .1 }, λ h. receives ∙ hears h);
-          answers-so = λ h. answered-call (after fresh run) (e .burst) (e .offer) r answer w here (hears h);
+          answers-exactly = (λ x. let h = told (from .own .four) (e .burst) (lastStep from run) (sym both-now ∙ sym receives ∙ x) in record { is-callable = h .0; in-succession = h .1 }, λ h. receives ∙ hears h);
+          answers-so = λ h. answered-call (after from run) (e .burst) (e .offer) r answer w here (hears h);
         }
       where
-        receives : isReceiving (r .station .place) ≡ bothHeard (w .heard) (callOf (after fresh run .own .four) (e .burst))
-        receives = receiving-is (after fresh run) (e .burst) (e .offer) r answer w here
+        receives : isReceiving (r .station .place) ≡ bothHeard (w .heard) (callOf (after from run .own .four) (e .burst))
+        receives = receiving-is (after from run) (e .burst) (e .offer) r answer w here
 
-        hears : BothBlocks fresh run e → bothHeard (w .heard) (callOf (after fresh run .own .four) (e .burst)) ≡ true
-        hears h = both-now ∙ tells (fresh .own .four) (e .burst) (lastStep fresh run) (h .is-callable) (h .in-succession)
+        hears : BothBlocks from run e → bothHeard (w .heard) (callOf (after from run .own .four) (e .burst)) ≡ true
+        hears h = both-now ∙ tells (from .own .four) (e .burst) (lastStep from run) (h .is-callable) (h .in-succession)
 
-pub hears-call-exactly : (fresh : Station) → NoneHeard fresh → (run : Run) (w : Waiting) → after fresh run .place ≡ StandBy w → (e : Event) (r : Reply) → said (after fresh run) e ≡ answered r → HearsCall fresh run e r
-hears-call-exactly fresh none-heard run w here e r answer = heard-so fresh none-heard run w here e r answer
+pub hears-call-exactly : (from : Station) → NoneHeard from → (run : Run) (w : Waiting) → after from run .place ≡ StandBy w → (e : Event) (r : Reply) → said (after from run) e ≡ answered r → HearsCall from run e r
+hears-call-exactly from none-heard run w here e r answer = heard-so from none-heard run w here e r answer

@@ -72,15 +72,15 @@ abbrev pub Successive : Option Step → Words → Words → Words → Type 0
 Successive last now x y = WasHeard isStandBy (λ b. b ≡ x) last × (now ≡ y)
 
 -- "both blocks in succession", in either order: the own call blocks, of an identity of four signals of table 3a
-pub record BothBlocks (fresh : Station) (run : Run) (e : Event) : Type 0 where
-  pub is-callable : isCallable (fresh .own .four) ≡ true
-  pub in-succession : (Successive (lastStep fresh run) (e .burst) (callBlock1 (fresh .own .four)) (callBlock2 (fresh .own .four))) ⊎ (Successive (lastStep fresh run) (e .burst) (callBlock2 (fresh .own .four)) (callBlock1 (fresh .own .four)))
+pub record BothBlocks (from : Station) (run : Run) (e : Event) : Type 0 where
+  pub is-callable : isCallable (from .own .four) ≡ true
+  pub in-succession : (Successive (lastStep from run) (e .burst) (callBlock1 (from .own .four)) (callBlock2 (from .own .four))) ⊎ (Successive (lastStep from run) (e .burst) (callBlock2 (from .own .four)) (callBlock1 (from .own .four)))
 
 -- of a run that starts with none of the own call blocks heard
 abbrev pub NoneHeard : Station → Type 0
 NoneHeard s = (w : Waiting) → s .place ≡ StandBy w → w .heard ≡ Mark.None
 
 -- "The slave answers CS1 after both blocks in succession", and then only
-pub record HearsCall (fresh : Station) (run : Run) (e : Event) (r : Reply) : Type 0 where
-  pub answers-exactly : isReceiving (r .station .place) ≡ true ↔ BothBlocks fresh run e
-  pub answers-so : BothBlocks fresh run e → AnswersCall r
+pub record HearsCall (from : Station) (run : Run) (e : Event) (r : Reply) : Type 0 where
+  pub answers-exactly : isReceiving (r .station .place) ≡ true ↔ BothBlocks from run e
+  pub answers-so : BothBlocks from run e → AnswersCall r

@@ -8,6 +8,8 @@ use Rattle.mode_a.specs.declared.Words.{Words}
 use Rattle.mode_a.specs.declared.Held.{Held}
 use Rattle.mode_a.specs.declared.Place.{Place}
 use Rattle.mode_a.specs.declared.Offer.{Offer}
+use Rattle.mode_a.specs.declared.Doing.{Doing}
+use Rattle.mode_a.specs.declared.Doing.the-variants.{Repeats, Goes, Takes, Receives, Opens, Accepts, Rests, Answers, Listens, Reaches}
 use Rattle.mode_a.specs.declared.Station.{Station}
 use Rattle.mode_a.specs.declared.Reply.{Reply}
 use Rattle.mode_a.specs.declared.Number.{Number}
@@ -78,6 +80,19 @@ confirms p h = atSending (λ b. confirming b (h .first)) false p
 -- "accepts": Receiving that hears a block  R-073
 abbrev pub accepting : Place → Heard → Bool
 accepting p h = isReceiving p && h .block
+
+-- a row that takes the offer
+abbrev pub isTaking : Doing → Bool
+isTaking (Repeats w) = false
+isTaking (Goes p w) = false
+isTaking (Takes n) = true
+isTaking (Receives n) = false
+isTaking Opens = false
+isTaking (Accepts n) = false
+isTaking (Rests n w) = false
+isTaking Answers = false
+isTaking (Listens w) = false
+isTaking (Reaches i n) = true
 
 -- "take the offer": Sending that hears the control signal of the other number, Opening that hears either, Calling that hears the same
 -- twice  R-051, R-066, 02's T-02
