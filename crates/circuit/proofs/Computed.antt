@@ -12,8 +12,12 @@ use Rattle.mode_a.specs.declared.Role.the-variants.{Master, Slave}
 use Rattle.mode_a.specs.declared.Number.{Number}
 use Rattle.mode_a.specs.declared.Number.the-variants.{One, Two}
 use Rattle.mode_a.specs.declared.Words.{Words}
+use Rattle.mode_a.specs.declared.Mark.{Mark}
+use Rattle.mode_a.specs.declared.Identity.{Identity}
+use Rattle.mode_a.specs.declared.Peer.{Peer}
+use Rattle.mode_a.specs.declared.Peer.the-variants.{Nobody, Four}
 use Rattle.mode_a.specs.declared.Place.{Place}
-use Rattle.mode_a.specs.declared.Place.the-variants.{Sending, Turning, Opening, Ending, Receiving, Asking, StandBy, Lost}
+use Rattle.mode_a.specs.declared.Place.the-variants.{Sending, Turning, Opening, Ending, Receiving, Asking, StandBy, Lost, Calling}
 use Rattle.mode_a.specs.declared.Station.{Station}
 use Rattle.mode_a.specs.Station.{words}
 use Rattle.runs.specs.Runs.{_▷_}
@@ -59,6 +63,34 @@ named-is : (n : Number) (k : Number → Circuit) → named n k ≡ k n
 named-is One k = refl
 named-is Two k = refl
 
+abbrev mark : Mark → (Mark → Circuit) → Circuit
+mark Mark.None k = k Mark.None
+mark Mark.One k = k Mark.One
+mark Mark.Two k = k Mark.Two
+
+mark-is : (m : Mark) (k : Mark → Circuit) → mark m k ≡ k m
+mark-is Mark.None k = refl
+mark-is Mark.One k = refl
+mark-is Mark.Two k = refl
+
+abbrev identity : Identity → (Identity → Circuit) → Circuit
+identity i k = number (i .0) (λ x. number (i .1) (λ y. number (i .2) (λ z. number (i .3) (λ u. k (record { 0 = x; 1 = y; 2 = z; 3 = u })))))
+
+identity-is : (i : Identity) (k : Identity → Circuit) → identity i k ≡ k i
+identity-is i k =
+    number-is (i .0) (λ x. number (i .1) (λ y. number (i .2) (λ z. number (i .3) (λ u. k (record { 0 = x; 1 = y; 2 = z; 3 = u })))))
+    ∙ number-is (i .1) (λ y. number (i .2) (λ z. number (i .3) (λ u. k (record { 0 = i .0; 1 = y; 2 = z; 3 = u }))))
+    ∙ number-is (i .2) (λ z. number (i .3) (λ u. k (record { 0 = i .0; 1 = i .1; 2 = z; 3 = u })))
+    ∙ number-is (i .3) (λ u. k (record { 0 = i .0; 1 = i .1; 2 = i .2; 3 = u }))
+
+abbrev peer : Peer → (Peer → Circuit) → Circuit
+peer Nobody k = k Nobody
+peer (Four i) k = identity i (λ i. k (Four i))
+
+peer-is : (p : Peer) (k : Peer → Circuit) → peer p k ≡ k p
+peer-is Nobody k = refl
+peer-is (Four i) k = identity-is i (λ i. k (Four i))
+
 abbrev place : Place → (Place → Circuit) → Circuit
 place (Sending h) k = named (h .number) (λ n. block (h .block) (λ b. k (Sending (record { number = n; block = b }))))
 place (Turning n) k = named n (λ n. k (Turning n))
@@ -66,8 +98,9 @@ place Opening k = k Opening
 place (Ending e) k = named (e .number) (λ n. number (e .total) (λ i. k (Ending (record { number = n; total = i }))))
 place (Receiving n) k = named n (λ n. k (Receiving n))
 place Asking k = k Asking
-place StandBy k = k StandBy
+place (StandBy w) k = number (w .wait) (λ n. mark (w .heard) (λ m. k (StandBy (record { wait = n; heard = m }))))
 place Lost k = k Lost
+place (Calling c) k = identity (c .to) (λ i. number (c .sent) (λ n. mark (c .last) (λ m. k (Calling (record { to = i; sent = n; last = m })))))
 
 place-is : (p : Place) (k : Place → Circuit) → place p k ≡ k p
 place-is (Sending h) k = named-is (h .number) (λ n. block (h .block) (λ b. k (Sending (record { number = n; block = b })))) ∙ block-is (h .block) (λ b. k (Sending (record { number = h .number; block = b })))
@@ -76,8 +109,12 @@ place-is Opening k = refl
 place-is (Ending e) k = named-is (e .number) (λ n. number (e .total) (λ i. k (Ending (record { number = n; total = i })))) ∙ number-is (e .total) (λ i. k (Ending (record { number = e .number; total = i })))
 place-is (Receiving n) k = named-is n (λ n. k (Receiving n))
 place-is Asking k = refl
-place-is StandBy k = refl
+place-is (StandBy w) k = number-is (w .wait) (λ n. mark (w .heard) (λ m. k (StandBy (record { wait = n; heard = m })))) ∙ mark-is (w .heard) (λ m. k (StandBy (record { wait = w .wait; heard = m })))
 place-is Lost k = refl
+place-is (Calling c) k =
+    identity-is (c .to) (λ i. number (c .sent) (λ n. mark (c .last) (λ m. k (Calling (record { to = i; sent = n; last = m })))))
+    ∙ number-is (c .sent) (λ n. mark (c .last) (λ m. k (Calling (record { to = c .to; sent = n; last = m }))))
+    ∙ mark-is (c .last) (λ m. k (Calling (record { to = c .to; sent = c .sent; last = m })))
 
 abbrev role : Role → (Role → Circuit) → Circuit
 role Master k = k Master
@@ -104,15 +141,17 @@ plus-is true k = refl
 plus-is false k = refl
 
 abbrev station : Station → (Station → Circuit) → Circuit
-station s k = role (s .role) (λ r. place (s .place) (λ p. number (s .count) (λ n. case-of (s .case) (λ c. plus-of (s .plus) (λ m. k (record { role = r; place = p; count = n; case = c; plus = m }))))))
+station s k = role (s .role) (λ r. place (s .place) (λ p. number (s .count) (λ n. case-of (s .case) (λ c. plus-of (s .plus) (λ m. identity (s .own .four) (λ i. peer (s .other) (λ q. k (record { role = r; place = p; count = n; case = c; plus = m; own = record { four = i }; other = q }))))))))
 
 station-is : (s : Station) (k : Station → Circuit) → station s k ≡ k s
 station-is s k =
-    role-is (s .role) (λ r. place (s .place) (λ p. number (s .count) (λ n. case-of (s .case) (λ c. plus-of (s .plus) (λ m. k (record { role = r; place = p; count = n; case = c; plus = m }))))))
-    ∙ place-is (s .place) (λ p. number (s .count) (λ n. case-of (s .case) (λ c. plus-of (s .plus) (λ m. k (record { role = s .role; place = p; count = n; case = c; plus = m })))))
-    ∙ number-is (s .count) (λ n. case-of (s .case) (λ c. plus-of (s .plus) (λ m. k (record { role = s .role; place = s .place; count = n; case = c; plus = m }))))
-    ∙ case-is (s .case) (λ c. plus-of (s .plus) (λ m. k (record { role = s .role; place = s .place; count = s .count; case = c; plus = m })))
-    ∙ plus-is (s .plus) (λ m. k (record { role = s .role; place = s .place; count = s .count; case = s .case; plus = m }))
+    role-is (s .role) (λ r. place (s .place) (λ p. number (s .count) (λ n. case-of (s .case) (λ c. plus-of (s .plus) (λ m. identity (s .own .four) (λ i. peer (s .other) (λ q. k (record { role = r; place = p; count = n; case = c; plus = m; own = record { four = i }; other = q }))))))))
+    ∙ place-is (s .place) (λ p. number (s .count) (λ n. case-of (s .case) (λ c. plus-of (s .plus) (λ m. identity (s .own .four) (λ i. peer (s .other) (λ q. k (record { role = s .role; place = p; count = n; case = c; plus = m; own = record { four = i }; other = q })))))))
+    ∙ number-is (s .count) (λ n. case-of (s .case) (λ c. plus-of (s .plus) (λ m. identity (s .own .four) (λ i. peer (s .other) (λ q. k (record { role = s .role; place = s .place; count = n; case = c; plus = m; own = record { four = i }; other = q }))))))
+    ∙ case-is (s .case) (λ c. plus-of (s .plus) (λ m. identity (s .own .four) (λ i. peer (s .other) (λ q. k (record { role = s .role; place = s .place; count = s .count; case = c; plus = m; own = record { four = i }; other = q })))))
+    ∙ plus-is (s .plus) (λ m. identity (s .own .four) (λ i. peer (s .other) (λ q. k (record { role = s .role; place = s .place; count = s .count; case = s .case; plus = m; own = record { four = i }; other = q }))))
+    ∙ identity-is (s .own .four) (λ i. peer (s .other) (λ q. k (record { role = s .role; place = s .place; count = s .count; case = s .case; plus = s .plus; own = record { four = i }; other = q })))
+    ∙ peer-is (s .other) (λ q. k (record { role = s .role; place = s .place; count = s .count; case = s .case; plus = s .plus; own = record { four = s .own .four }; other = q }))
 
 abbrev direction : Direction → (Direction → Circuit) → Circuit
 direction d k = blocks (d .taken) (λ t. blocks (d .accepted) (λ a. numbers (d .printed) (λ p. blocks (d .confirmed) (λ c. k (record { taken = t; accepted = a; printed = p; confirmed = c })))))
@@ -144,7 +183,7 @@ unfoldable pub through : (Circuit → Event → Circuit) → Circuit → List Ev
 through step c [] = c
 through step c (e ∷ es) = settled (step c e) (λ d. through step d es)
 
-pub computed : (run : Run) (es : List Event) → after (run-of run es) ≡ through next (after run) es
+pub computed : (c : Circuit) (run : Run) (es : List Event) → after c (run-of run es) ≡ through next (after c run) es
 unfolding after through
-computed run [] = refl
-computed run (e ∷ es) = computed (run ▷ e) es ∙ sym (settled-is (next (after run) e) (λ d. through next d es))
+computed c run [] = refl
+computed c run (e ∷ es) = computed c (run ▷ e) es ∙ sym (settled-is (next (after c run) e) (λ d. through next d es))

@@ -71,6 +71,18 @@ signal-as-sent : (w b v : ℕ) → Word w b → b ≡ v → (meaningOf v ≡ 0 �
 signal-as-sent w b v (as-sent e) h n = e
 signal-as-sent w b v (no-signal z) h n = absurd (n (sym (ap meaningOf h) ∙ z))
 
+-- RQ is heard only where it was sent
+rq-is : meaningOf rq ≡ 0 → ⊥
+unfolding meaningOf
+rq-is e = omega arith
+
+pub not-rq : (w b : ℕ) → Word w b → eqb w rq ≡ false → eqb b rq ≡ false
+not-rq w b m f = go (eqb b rq) refl
+  where
+    go : (t : Bool) → eqb b rq ≡ t → t ≡ false
+    go true e = absurd (true≢false (sym e ∙ ap (λ (x : ℕ). eqb x rq) (signal-as-sent w b rq m (eqb-true b rq e) rq-is) ∙ f))
+    go false e = refl
+
 pub whole-block : (w b : Words) → Mangled w b → isBlock b ≡ true → b ≡ w
 unfolding isBlock
 whole-block w b m e =

@@ -3,21 +3,25 @@
 --     Link         what links the two stations, phase by phase
 --     StepLaws     a step leads from link to link
 --     RunLaws      so every circuit of a run is linked; what follows at once
+--     CallLaws     a call: what it leaves where it is completed
 --     TimeLaws     the exchange after a confirmation: neither station is Lost in it
 --     LiveLaws     undamaged exchanges
 --     SoundLaws    a station of a run is sound
 --     Theorem      demand 3
 --     Computed     how antt computes a run
 --     Runs         single runs: it says something
+--     CallRuns     a call, traffic and a turn
 --     Refuted      stronger sentences, and wrong readings of the rows
 pub mod DamageLaws
 pub mod Link
 pub mod StepLaws
 pub mod RunLaws
+pub mod CallLaws
 pub mod TimeLaws
 pub mod LiveLaws
 pub mod SoundLaws
 pub mod Theorem
 pub mod Computed
 pub mod Runs
+pub mod CallRuns
 pub mod Refuted

@@ -10,28 +10,34 @@
 --     E2      Ending             Stand-by
 --     E3      Receiving          Stand-by
 --     E4      Stand-by           Stand-by
+--     C1      Calling            Stand-by
+--     C2      Calling            Receiving k
 --
+-- C1 and C2 lead to S1 or E1 where the call is completed, and to E4 and E3 where it fails.
 -- A station that is Lost is linked by the place where it was, as if it were still there and all its bursts were damaged.
 -- Assumes nothing.
 use mathlib.Core.Path.{_≡_}
-use mathlib.Core.Bool.{true}
+use mathlib.Core.Bool.{Bool, true, false, not, _||_}
 use mathlib.Core.List.{List, [], _∷_, _++_}
 use Prim.Native.Nat.{ℕ}
-use Rattle.signals.specs.Meaning.{cs3}
+use lib.Dec.{eqb}
+use Rattle.signals.specs.Meaning.{rq, cs3}
 use Rattle.mode_a.specs.declared.Role.{Role}
 use Rattle.mode_a.specs.declared.Number.{Number}
 use Rattle.mode_a.specs.declared.Words.{Words}
 use Rattle.mode_a.specs.declared.Held.{Held}
 use Rattle.mode_a.specs.declared.Ended.{Ended}
 use Rattle.mode_a.specs.declared.Place.{Place}
-use Rattle.mode_a.specs.declared.Place.the-variants.{Sending, Turning, Opening, Ending, Receiving, Asking, StandBy, Lost}
+use Rattle.mode_a.specs.declared.Waiting.{Waiting}
+use Rattle.mode_a.specs.declared.Called.{Called}
+use Rattle.mode_a.specs.declared.Place.the-variants.{Sending, Turning, Opening, Ending, Receiving, Asking, StandBy, Lost, Calling}
 use Rattle.mode_a.specs.declared.Offer.{Offer}
 use Rattle.mode_a.specs.declared.Station.{Station}
 use Rattle.mode_a.specs.declared.Reply.{Reply}
 use Rattle.mode_a.specs.Station.{listOf, single, silence, ααα, RQ×3, other, asksFor}
-use Rattle.mode_a.specs.Heard.{isBlock}
+use Rattle.mode_a.specs.Heard.{isBlock, isWords}
 use Rattle.mode_a.specs.Rows.{requests}
-use Rattle.circuit.specs.Circuit.{traffic, signalsIn, Direction, Circuit, takenBy, printedBy}
+use Rattle.circuit.specs.Circuit.{traffic, signalsIn, Direction, Circuit, takenIf, printedBy}
 
 -- what is owed in a direction: nothing, or the confirmation of a block that the other has not accepted, or has
 pub data Owed : Type 0 where
@@ -41,6 +47,10 @@ pub data Owed : Type 0 where
 
 abbrev pub held : Number → Words → Held
 held n b = record { number = n; block = b }
+
+-- a burst without the RQ that a call block has behind its first word: no station at Stand-by hears a call in it
+abbrev pub noRq : Words → Bool
+noRq w = not (eqb (w .1) rq || eqb (w .2) rq)
 
 -- The station that hears, the station that has sent, what it sent, and what is owed to the one and to the other. In S1 with the block
 -- accepted, the sender has RQ RQ RQ on the way and not the block: else it would be accepted twice.
@@ -60,11 +70,15 @@ pub data Link : Place → Place → Words → Owed → Owed → Type 0 where
   s5-rq : {k : Number} (r : Role) → Link (Receiving k) Opening (requests r) none none
   e1-alphas : {k : Number} {e : Ended} → Link (Receiving k) (Ending e) ααα none none
   e1-any : {k : Number} {e : Ended} {w : Words} → Link (Ending e) (Receiving k) w none none
-  e2-any : {e : Ended} {w : Words} → Link (Ending e) StandBy w none none
-  e2-any′ : {e : Ended} {w : Words} → Link StandBy (Ending e) w none none
-  e3-silence : {k : Number} → Link (Receiving k) StandBy silence none none
-  e3-any : {k : Number} {w : Words} → Link StandBy (Receiving k) w none none
-  e4-any : {w : Words} → Link StandBy StandBy w none none
+  e2-any : {e : Ended} {x : Waiting} {w : Words} → Link (Ending e) (StandBy x) w none none
+  e2-any′ : {e : Ended} {x : Waiting} {w : Words} → noRq w ≡ true → Link (StandBy x) (Ending e) w none none
+  e3-silence : {k : Number} {x : Waiting} → Link (Receiving k) (StandBy x) silence none none
+  e3-any : {k : Number} {x : Waiting} {w : Words} → noRq w ≡ true → Link (StandBy x) (Receiving k) w none none
+  e4-any : {x y : Waiting} {w : Words} → noRq w ≡ true → Link (StandBy x) (StandBy y) w none none
+  c1-any : {x : Waiting} {c : Called} {w : Words} → Link (StandBy x) (Calling c) w none none
+  c1-silence : {x : Waiting} {c : Called} → Link (Calling c) (StandBy x) silence none none
+  c2-call : {k : Number} {c : Called} {w : Words} → isBlock w ≡ false → isWords w ααα ≡ false → Link (Receiving k) (Calling c) w none none
+  c2-asks : {k : Number} {c : Called} → Link (Calling c) (Receiving k) (asksFor k) none none
 
 -- what is owed, in the lists of the direction
 abbrev pub waiting : Owed → List Words
@@ -114,13 +128,13 @@ pub data Came : Owed → Owed → List Words → List ℕ → Type 0 where
   nothing-new : {o : Owed} → Came o o [] []
   came : {b : Words} → Came (unheard b) (heard b) (b ∷ []) (traffic (listOf b))
 
--- the circuit after the reply of a station that heard: linked again
-pub record After (o : Offer) (ox op : Owed) (p : Place) (r : Reply) (confirmed accepted : List Words) : Type 0 where
+-- the circuit after the reply of a station that heard: linked again. t tells whether its row takes the offer.
+pub record After (t : Bool) (o : Offer) (ox op : Owed) (p : Place) (r : Reply) (confirmed accepted : List Words) : Type 0 where
   pub place : Place
   pub word : Words
   pub ox′ : Owed
   pub op′ : Owed
   pub link : Link p place word op′ ox′
   pub says : Says (r .station) place (r .sent) word
-  pub sends : Moved ox ox′ (takenBy o r) confirmed
+  pub sends : Moved ox ox′ (takenIf t o r) confirmed
   pub hears : Came op op′ accepted (printedBy r)

@@ -30,12 +30,12 @@ use Rattle.runs.specs.Places.{Inner, with-block, with-total, neither, innerOf, 
 use Rattle.runs.specs.Runs.{isAnswered}
 use Rattle.runs.proofs.PlaceLaws.{places-apart}
 use Rattle.runs.proofs.StepLaws.{Answers, answers, by-repeat, lost-stays}
-use Rattle.circuit.specs.Circuit.{Event, heard, Harmless, Whole, Circuit, said, confirmedAt, confirmedOf, confirmedBy, acceptedBy, answeredBy, goesOn, next}
+use Rattle.circuit.specs.Circuit.{Event, heard, Harmless, Whole, Circuit, said, confirmedAt, confirmedOf, confirmedBy, acceptedBy, answeredBy, goesOn, next, placesCall}
 use Rattle.circuit.specs.Demand.{Beginning, Exchanged, Confirms, TimedOutFirst, InTime, AwaitsAtRq}
-use Rattle.circuit.proofs.Link.{Owed, unheard, heard as accepted, held, Link, s1-block, s1-rqs, s1-own, s1-rqs′, s1-other, s2-rqs, s2-cs3, s3-any, s3-cs3, s4-rq, s4-rqs, s5-asks, s5-rq, e1-alphas, e1-any, e2-any, e2-any′, e3-silence, e3-any, e4-any, Told, At, here, gone, Says, aloud, no-more, Linked}
+use Rattle.circuit.proofs.Link.{Owed, unheard, heard as accepted, held, Link, s1-block, s1-rqs, s1-own, s1-rqs′, s1-other, s2-rqs, s2-cs3, s3-any, s3-cs3, s4-rq, s4-rqs, s5-asks, s5-rq, e1-alphas, e1-any, e2-any, e2-any′, e3-silence, e3-any, e4-any, c1-any, c1-silence, c2-call, c2-asks, Told, At, here, gone, Says, aloud, no-more, Linked}
 use Rattle.circuit.proofs.StepLaws.{asks-first, same-self, same-other}
 use Rattle.circuit.proofs.TimeLaws.{in-time, Follows, took, turns, follows-in-time, goes-on}
-use Rattle.circuit.proofs.RunLaws.{still-at, place-here, linked-next}
+use Rattle.circuit.proofs.RunLaws.{still-at, place-here, linked-next, sender-sends}
 
 -- undamaged, it is heard as it was sent; and that is harmless
 heard-whole : (e : Event) (w : Words) → Whole e → heard e w ≡ w
@@ -99,10 +99,14 @@ hears-at (s5-rq r) = tt
 hears-at e1-alphas = tt
 hears-at e1-any = tt
 hears-at e2-any = tt
-hears-at e2-any′ = tt
+hears-at (e2-any′ q) = tt
 hears-at e3-silence = tt
-hears-at e3-any = tt
-hears-at e4-any = tt
+hears-at (e3-any q) = tt
+hears-at (e4-any q) = tt
+hears-at c1-any = tt
+hears-at c1-silence = tt
+hears-at (c2-call i j) = tt
+hears-at c2-asks = tt
 
 -- what a station at Sending has sent, and to whom
 data Sent (h : Held) : Place → Words → Owed → Type 0 where
@@ -134,10 +138,14 @@ sent-at (s5-rq r) = tt
 sent-at e1-alphas = tt
 sent-at e1-any = tt
 sent-at e2-any = tt
-sent-at e2-any′ = tt
+sent-at (e2-any′ q) = tt
 sent-at e3-silence = tt
-sent-at e3-any = tt
-sent-at e4-any = tt
+sent-at (e3-any q) = tt
+sent-at (e4-any q) = tt
+sent-at c1-any = tt
+sent-at c1-silence = tt
+sent-at (c2-call i j) = tt
+sent-at c2-asks = tt
 
 -- the burst of a station that is not Lost
 burst-is : {p : Place} {w : Words} (c : Circuit) → Says (c .sender) p (c .burst) w → (c .sender .place ≡ Lost → ⊥) → c .burst ≡ w
@@ -249,14 +257,14 @@ module _
 abbrev step : Circuit → Event → Reply → Circuit
 step c e r = answeredBy c (e .offer) (heard e (c .burst)) r
 
-linked-step : (c : Circuit) (e : Event) (r : Reply) → Linked c → Whole e → said c e ≡ answered r → Linked (step c e r)
-linked-step c e r l w i = subst (λ (a : Answer Reply). Linked (goesOn c e a)) i (linked-next c e (whole-harmless e w) l)
+linked-step : (c : Circuit) (e : Event) (r : Reply) → Linked c → Whole e → placesCall c e ≡ false → said c e ≡ answered r → Linked (step c e r)
+linked-step c e r l w n i = subst (λ (a : Answer Reply). Linked (goesOn c e a)) i (linked-next c e (whole-harmless e w) n l)
 
 module _
     (c : Circuit) (l : Linked c) (h : Held) (at : c .sender .place ≡ Sending h) (e₁ e₂ : Event) (whole₁ : Whole e₁)
     (whole₂ : Whole e₂) (r₁ r₂ : Reply) (is₁ : said c e₁ ≡ answered r₁) (is₂ : said (step c e₁ r₁) e₂ ≡ answered r₂) where
   back : Back (step c e₁ r₁) h e₂ r₂
-  back = comes-back (step c e₁ r₁) (linked-step c e₁ r₁ l whole₁ is₁) h e₂ r₂ at whole₂ is₂
+  back = comes-back (step c e₁ r₁) (linked-step c e₁ r₁ l whole₁ (sender-sends c l h at e₁) is₁) h e₂ r₂ at whole₂ is₂
 
   abbrev exchanged : Circuit
   exchanged = step (step c e₁ r₁) e₂ r₂
@@ -316,7 +324,7 @@ module _
           let z = answers (r₂ .station) (heard e₄ (r₃ .sent)) (e₄ .offer) r₄ is₄ in
           inl (record { rest = confirmedBy (r₂ .station) (heard e₄ (r₃ .sent)); splits = cc }, goes-on (c .sender) (r₁ .station .place) r₂ (r₁ .station) (e₃ .offer) (e₄ .offer) (heard e₄ (r₃ .sent)) r₃ r₄ w refl y z)
       go (block-now alive p s i n a) =
-          let l₂ = linked-step (step c e₁ r₁) e₂ r₂ (linked-step c e₁ r₁ l whole₁ is₁) whole₂ is₂ in
+          let l₂ = linked-step (step c e₁ r₁) e₂ r₂ (linked-step c e₁ r₁ l whole₁ (sender-sends c l h at e₁) is₁) whole₂ (rw at) is₂ in
           second (one (step (step c e₁ r₁) e₂ r₂) l₂ h p e₃ e₄ whole₃ whole₄ r₃ r₄ is₃ is₄ (λ x y. not-rqs (h .block) i (sym s ∙ y)))
         where
           second : (Confirms h (step (step c e₁ r₁) e₂ r₂) last × InTime last) ⊎ TimedOutFirst (step (step c e₁ r₁) e₂ r₂) last →

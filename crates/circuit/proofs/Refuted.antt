@@ -21,13 +21,14 @@ use Rattle.mode_a.specs.declared.Words.{Words}
 use Rattle.mode_a.specs.declared.Held.{Held}
 use Rattle.mode_a.specs.declared.Ended.{Ended}
 use Rattle.mode_a.specs.declared.Place.{Place}
-use Rattle.mode_a.specs.declared.Place.the-variants.{Sending, Turning, Opening, Ending, Receiving, Asking, StandBy, Lost}
+use Rattle.mode_a.specs.declared.Place.the-variants.{Sending, Turning, Opening, Ending, Receiving, Asking, StandBy, Lost, Calling}
 use Rattle.mode_a.specs.declared.Offer.{Offer}
 use Rattle.mode_a.specs.declared.Doing.{Doing}
-use Rattle.mode_a.specs.declared.Doing.the-variants.{Repeats, Goes, Takes, Opens}
+use Rattle.mode_a.specs.declared.Doing.the-variants.{Repeats, Goes, Takes, Opens, Rests}
 use Rattle.mode_a.specs.declared.Reply.{Reply}
-use Rattle.mode_a.specs.Station.{words, single, silence, RQ×3, other}
-use Rattle.mode_a.specs.Heard.{First, Cs, Cs3, Rq, Else, Heard, firstOf, mayHold, isBlock, isWords, heardOf}
+use Rattle.mode_a.specs.Station.{words, single, silence, RQ×3, other, resting}
+use Rattle.mode_a.specs.Heard.{First, Cs, Cs3, Rq, Else, Heard, firstOf, mayHold, isBlock, isWords, callOf, heardOf}
+use Rattle.mode_a.specs.Calls.{isCallable, isIdentity}
 use Rattle.mode_a.specs.Over.{query, cross, listened}
 use Rattle.mode_a.specs.Rows.{rowOf, sending, opening, asking, receiving}
 use Rattle.mode_a.specs.Step.{isOver, trafficIn, done, sound, stepping}
@@ -35,12 +36,13 @@ use Rattle.signals.specs.Damage.{kept, hurt}
 use Rattle.runs.specs.Places.{isOpening, isAsking}
 use Rattle.runs.specs.Runs.{start, _▷_, isAnswered}
 use Rattle.runs.proofs.StepLaws.{answers}
-use Rattle.circuit.specs.Circuit.{Event, heard, Whole, Run, Direction, Circuit, fresh, said, confirmedBy, answeredBy, goesOn, next, after, AllHarmless}
+use Rattle.circuit.specs.Circuit.{Event, heard, Whole, Run, Direction, Circuit, fresh, said, confirmedBy, answeredBy, goesOn, next, after, AllHarmless, NoCallPlaced}
+use Rattle.circuit.specs.Starts.{both-fresh}
 use Rattle.circuit.specs.Demand.{Carried, Kept, Exchanged, Confirms, TimedOutFirst, InTime, Demand3}
 use Rattle.circuit.proofs.TimeLaws.{in-time}
 use Rattle.circuit.proofs.Theorem.{demand3}
 use Rattle.circuit.proofs.Computed.{run-of, through, computed}
-use Rattle.circuit.proofs.Runs.{clear, faded, struck, signals3, text, none, isHarmless, harmless-if}
+use Rattle.circuit.proofs.Runs.{clear, faded, struck, signals3, text, none, isOrdinary, ordinary}
 
 -- no block where there is one, one where there are two
 not-none : (n : ℕ) → 0 ≡ suc n → ⊥
@@ -71,21 +73,21 @@ if-in-time {A} {c} {d} (inr z) t = go (z .lost)
     go (inr e) = absurd (t .1 e)
 
 -- printing is never ahead
-no-lock-step : ((run : Run) → AllHarmless run → length (after run .from-hearer .accepted) ≤ length (after run .from-hearer .confirmed)) →
+no-lock-step : ((run : Run) → AllHarmless run → NoCallPlaced fresh run → length (after fresh run .from-hearer .accepted) ≤ length (after fresh run .from-hearer .confirmed)) →
     ⊥
-unfolding AllHarmless after stepping sound done firstNot isBlock mayHold trafficOf meaningOf heardOf firstOf isWords listened trafficIn
+unfolding AllHarmless NoCallPlaced after stepping sound done firstNot isBlock mayHold trafficOf meaningOf heardOf firstOf isWords listened trafficIn
 no-lock-step claim =
-    let h : 1 ≤ 0 = claim (start ▷ clear (text 1 2 3) ▷ clear none) ((tt, (tt, tt, tt)), (tt, tt, tt)) in omega arith
+    let h : 1 ≤ 0 = claim (start ▷ clear (text 1 2 3) ▷ clear none) ((tt, (tt, tt, tt)), (tt, tt, tt)) ((tt, refl), refl) in omega arith
 
 -- one exchange for two: the block is damaged, and so is the answer, so that RQ RQ RQ is on the way
 abbrev twice-damaged : Run
 twice-damaged = start ▷ clear (text 1 2 3) ▷ struck none ▷ faded none
 
-no-single-exchange : ((run : Run) → AllHarmless run → (h : Held) (d : Circuit) → after run .sender .place ≡ Sending h → Exchanged (after run) d → Confirms h (after run) d ⊎ TimedOutFirst (after run) d) →
+no-single-exchange : ((run : Run) → AllHarmless run → NoCallPlaced fresh run → (h : Held) (d : Circuit) → after fresh run .sender .place ≡ Sending h → Exchanged (after fresh run) d → Confirms h (after fresh run) d ⊎ TimedOutFirst (after fresh run) d) →
     ⊥
-unfolding AllHarmless after stepping sound done firstNot isBlock mayHold trafficOf meaningOf heardOf firstOf isWords listened trafficIn
+unfolding AllHarmless NoCallPlaced after stepping sound done firstNot isBlock mayHold trafficOf meaningOf heardOf firstOf isWords listened trafficIn
 no-single-exchange claim =
-    let b = if-in-time (claim twice-damaged (((tt, (tt, tt, tt)), (tt, refl, tt)), (refl, tt, tt)) (record { number = One; block = signals3 1 2 3 }) _ refl (exchanged (after twice-damaged) refl refl)) (in-time _ refl, in-time _ refl) in
+    let b = if-in-time (claim twice-damaged (((tt, (tt, tt, tt)), (tt, refl, tt)), (refl, tt, tt)) (((tt, refl), refl), refl) (record { number = One; block = signals3 1 2 3 }) _ refl (exchanged (after fresh twice-damaged) refl refl)) (in-time _ refl, in-time _ refl) in
     not-none (length (b .rest)) (ap length (b .splits))
 
 -- the time-out left out: both have repeated 31 times
@@ -99,26 +101,26 @@ almost-lost = clear (text 1 2 3) ∷ both-fade 31
 abbrev Untimed : Circuit → Type 0
 Untimed c = (h : Held) (d g : Circuit) → c .sender .place ≡ Sending h → Exchanged c d → Exchanged d g → Confirms h c g
 
-no-untimed : ((run : Run) → AllHarmless run → Untimed (after run)) → ⊥
-unfolding AllHarmless after through stepping sound done firstNot isBlock mayHold trafficOf meaningOf heardOf firstOf isWords listened trafficIn
+no-untimed : ((run : Run) → AllHarmless run → NoCallPlaced fresh run → Untimed (after fresh run)) → ⊥
+unfolding AllHarmless NoCallPlaced after through stepping sound done firstNot isBlock mayHold trafficOf meaningOf heardOf firstOf isWords listened trafficIn
 no-untimed claim =
-    let f = subst Untimed (computed start almost-lost) (claim (run-of start almost-lost) (harmless-if start almost-lost tt refl)) in
+    let f = subst Untimed (computed fresh start almost-lost) (let q = ordinary fresh almost-lost refl in claim (run-of start almost-lost) (q .harmless) (q .no-call)) in
     let b = f (record { number = One; block = signals3 1 2 3 }) _ _ refl (exchanged (through next fresh almost-lost) refl refl) (exchanged (exchange (through next fresh almost-lost)) refl refl) in
     not-none (length (b .rest)) (ap length (b .splits))
 
 -- damage that looks like a signal: the block is damaged, and CS2 is heard for the CS1 that asks for it again, so that what nobody
 -- printed is confirmed
-no-disguised-damage : ((run : Run) → Demand3 (after run)) → ⊥
-unfolding after stepping sound done firstNot isBlock mayHold trafficOf meaningOf heardOf firstOf isWords listened trafficIn
+no-disguised-damage : ((run : Run) → NoCallPlaced fresh run → Demand3 (after fresh run)) → ⊥
+unfolding NoCallPlaced after stepping sound done firstNot isBlock mayHold trafficOf meaningOf heardOf firstOf isWords listened trafficIn
 no-disguised-damage claim =
-    let b = claim (start ▷ clear (text 1 2 3) ▷ struck none ▷ record { first = hurt cs2; second = kept; third = kept; offer = none }) .from-sender .confirmed-is-printed in
+    let b = claim (start ▷ clear (text 1 2 3) ▷ struck none ▷ record { first = hurt cs2; second = kept; third = kept; offer = none }) (((tt, refl), refl), refl) .from-sender .confirmed-is-printed in
     not-none (length (b .rest)) (ap length (b .splits))
 
 -- and D is heard for A
-no-disguised-text : ((run : Run) → Demand3 (after run)) → ⊥
-unfolding after stepping sound done firstNot isBlock mayHold trafficOf meaningOf heardOf firstOf isWords listened trafficIn
+no-disguised-text : ((run : Run) → NoCallPlaced fresh run → Demand3 (after fresh run)) → ⊥
+unfolding NoCallPlaced after stepping sound done firstNot isBlock mayHold trafficOf meaningOf heardOf firstOf isWords listened trafficIn
 no-disguised-text claim =
-    let b = claim (start ▷ clear (text 1 2 3) ▷ record { first = hurt (wordNo 4); second = kept; third = kept; offer = none }) .from-hearer .accepts-a-beginning in
+    let b = claim (start ▷ clear (text 1 2 3) ▷ record { first = hurt (wordNo 4); second = kept; third = kept; offer = none }) ((tt, refl), refl) .from-hearer .accepts-a-beginning in
     let n : wordNo 1 ≡ wordNo 4 = ap (λ (l : List Words). getD l 0 silence .0) (b .splits) in
     omega arith
 
@@ -146,7 +148,7 @@ countingOvers c e =
 abbrev over-offered : List Event
 over-offered = clear none ∷ clear Offer.Over ∷ clear none ∷ clear none ∷ clear none ∷ clear (text 4 5 6) ∷ clear none ∷ []
 
-no-over-as-a-block : ((es : List Event) → isHarmless es ≡ true → Carried (through countingOvers fresh es .from-hearer)) → ⊥
+no-over-as-a-block : ((es : List Event) → isOrdinary es ≡ true → Carried (through countingOvers fresh es .from-hearer)) → ⊥
 unfolding through stepping sound done firstNot isBlock mayHold trafficOf meaningOf heardOf firstOf isWords listened trafficIn
 no-over-as-a-block claim =
     let b = claim over-offered refl .accepts-a-beginning in
@@ -160,11 +162,11 @@ HearsOther x c e = firstOf (next c e .burst .0) ≡ Cs (other (x .number))
 abbrev end-answer-lost : Run
 end-answer-lost = start ▷ clear Offer.End ▷ clear none ▷ faded none
 
-no-end-block : ((run : Run) → AllHarmless run → (x : Ended) (d g : Circuit) → after run .sender .place ≡ Ending x → (u : Exchanged (after run) d) (v : Exchanged d g) → InTime g → HearsOther x (after run) (u .out) ⊎ HearsOther x d (v .out)) →
+no-end-block : ((run : Run) → AllHarmless run → NoCallPlaced fresh run → (x : Ended) (d g : Circuit) → after fresh run .sender .place ≡ Ending x → (u : Exchanged (after fresh run) d) (v : Exchanged d g) → InTime g → HearsOther x (after fresh run) (u .out) ⊎ HearsOther x d (v .out)) →
     ⊥
-unfolding AllHarmless after stepping sound done firstNot isBlock mayHold trafficOf meaningOf heardOf firstOf isWords listened trafficIn exchanged
+unfolding AllHarmless NoCallPlaced after stepping sound done firstNot isBlock mayHold trafficOf meaningOf heardOf firstOf isWords callOf isCallable isIdentity listened trafficIn exchanged
 no-end-block claim =
-    go (claim end-answer-lost (((tt, (tt, tt, tt)), (tt, tt, tt)), (refl, tt, tt)) (record { number = One; total = 2 }) _ _ refl (exchanged (after end-answer-lost) refl refl) (exchanged (exchange (after end-answer-lost)) refl refl) (in-time _ refl, in-time _ refl))
+    go (claim end-answer-lost (((tt, (tt, tt, tt)), (tt, tt, tt)), (refl, tt, tt)) (((tt, refl), refl), refl) (record { number = One; total = 2 }) _ _ refl (exchanged (after fresh end-answer-lost) refl refl) (exchanged (exchange (after fresh end-answer-lost)) refl refl) (in-time _ refl, in-time _ refl))
   where
     go : (Else ≡ Cs Two) ⊎ (Else ≡ Cs Two) → ⊥
     go (inl e) = let y : _≡_ {A = ℕ} 0 1 = cc in omega arith
@@ -179,8 +181,9 @@ rowsWith s p v a r Opening h o = p r (h .first)
 rowsWith s p v a r (Ending e) h o = rowOf r (Ending e) h
 rowsWith s p v a r (Receiving n) h o = v n h o
 rowsWith s p v a r Asking h o = a h
-rowsWith s p v a r StandBy h o = rowOf r StandBy h
+rowsWith s p v a r (StandBy w) h o = rowOf r (StandBy w) h
 rowsWith s p v a r Lost h o = rowOf r Lost h
+rowsWith s p v a r (Calling c) h o = rowOf r (Calling c) h
 
 abbrev receives : Number → Heard → Offer → Doing
 receives n h o = receiving n h
@@ -192,24 +195,25 @@ right-rows r Opening h o = refl
 right-rows r (Ending e) h o = refl
 right-rows r (Receiving n) h o = refl
 right-rows r Asking h o = refl
-right-rows r StandBy h o = refl
+right-rows r (StandBy w) h o = refl
 right-rows r Lost h o = refl
+right-rows r (Calling c) h o = refl
 
 -- the step of a circuit whose stations follow some rows, and refuse what 01's stations refuse
 abbrev stepBy : (Role → Place → Heard → Offer → Doing) → Circuit → Event → Circuit
 stepBy rows c e =
     let b = heard e (c .burst) in
     if isAnswered (said c e) then
-    answeredBy c (e .offer) b (done (c .hearer) b (e .offer) (rows (c .hearer .role) (c .hearer .place) (heardOf b) (e .offer)))
+    answeredBy c (e .offer) b (done (c .hearer) b (e .offer) (rows (c .hearer .role) (c .hearer .place) (heardOf (c .hearer .own) b) (e .offer)))
     else c
 
 -- the sentences, over any step
 abbrev CarriesBy : (Circuit → Event → Circuit) → Type 0
-CarriesBy step = (es : List Event) → isHarmless es ≡ true → Carried (through step fresh es .from-hearer) × Carried (through step fresh es .from-sender)
+CarriesBy step = (es : List Event) → isOrdinary es ≡ true → Carried (through step fresh es .from-hearer) × Carried (through step fresh es .from-sender)
 
 abbrev KeepsBy : (Circuit → Event → Circuit) → Type 0
 KeepsBy step =
-    (es : List Event) → isHarmless es ≡ true → let c = through step fresh es in Kept (c .hearer .place) (c .from-hearer) × Kept (c .sender .place) (c .from-sender)
+    (es : List Event) → isOrdinary es ≡ true → let c = through step fresh es in Kept (c .hearer .place) (c .from-hearer) × Kept (c .sender .place) (c .from-sender)
 
 abbrev Undamaged : (Circuit → Event → Circuit) → Circuit → Event → Event → Type 0
 Undamaged step c d e = Whole d × Whole e × (isAnswered (said c d) ≡ true) × (isAnswered (said (step c d) e) ≡ true)
@@ -219,7 +223,7 @@ TwoFrom step c =
     (h : Held) (e₁ e₂ e₃ e₄ : Event) → c .sender .place ≡ Sending h → Undamaged step c e₁ e₂ → Undamaged step (step (step c e₁) e₂) e₃ e₄ → let g = step (step (step (step c e₁) e₂) e₃) e₄ in Confirms h c g ⊎ TimedOutFirst c g
 
 abbrev TwoExchangesBy : (Circuit → Event → Circuit) → Type 0
-TwoExchangesBy step = (es : List Event) → isHarmless es ≡ true → TwoFrom step (through step fresh es)
+TwoExchangesBy step = (es : List Event) → isOrdinary es ≡ true → TwoFrom step (through step fresh es)
 
 -- Over 01's rows all three hold.
 abbrev rightStep : Circuit → Event → Circuit
@@ -228,18 +232,18 @@ rightStep = stepBy (rowsWith sending opening receives asking)
 right-step : (c : Circuit) (e : Event) → rightStep c e ≡ next c e
 right-step c e = go (said c e) refl
   where
-    go : (a : Answer Reply) → said c e ≡ a → (if isAnswered a then answeredBy c (e .offer) (heard e (c .burst)) (done (c .hearer) (heard e (c .burst)) (e .offer) (rowsWith sending opening receives asking (c .hearer .role) (c .hearer .place) (heardOf (heard e (c .burst))) (e .offer))) else c) ≡ goesOn c e a
+    go : (a : Answer Reply) → said c e ≡ a → (if isAnswered a then answeredBy c (e .offer) (heard e (c .burst)) (done (c .hearer) (heard e (c .burst)) (e .offer) (rowsWith sending opening receives asking (c .hearer .role) (c .hearer .place) (heardOf (c .hearer .own) (heard e (c .burst))) (e .offer))) else c) ≡ goesOn c e a
     go (answered r) i =
         let y = answers (c .hearer) (heard e (c .burst)) (e .offer) r i in
-        ap (answeredBy c (e .offer) (heard e (c .burst))) (ap (done (c .hearer) (heard e (c .burst)) (e .offer)) (right-rows (c .hearer .role) (c .hearer .place) (heardOf (heard e (c .burst))) (e .offer)) ∙ sym (y .is-done))
+        ap (answeredBy c (e .offer) (heard e (c .burst))) (ap (done (c .hearer) (heard e (c .burst)) (e .offer)) (right-rows (c .hearer .role) (c .hearer .place) (heardOf (c .hearer .own) (heard e (c .burst))) (e .offer)) ∙ sym (y .is-done))
     go (refused n v) i = refl
 
 right-steps : rightStep ≡ next
 right-steps i c e = right-step c e i
 
-of-run : (es : List Event) → isHarmless es ≡ true → Demand3 (through next fresh es)
+of-run : (es : List Event) → isOrdinary es ≡ true → Demand3 (through next fresh es)
 unfolding after AllHarmless
-of-run es h = subst Demand3 (computed start es) (demand3 (run-of start es) (harmless-if start es tt h))
+of-run es h = let q = ordinary fresh es h in subst Demand3 (computed fresh start es) (demand3 fresh both-fresh (run-of start es) (q .harmless) (q .no-call))
 
 right-carries : CarriesBy rightStep
 right-carries = subst CarriesBy (sym right-steps) (λ es h. (of-run es h .from-hearer, of-run es h .from-sender))
@@ -346,13 +350,13 @@ always-rq-is-caught claim =
 abbrev givesUp : Held → First → Doing
 givesUp h (Cs n) = sending h (Cs n)
 givesUp h Cs3 = sending h Cs3
-givesUp h Rq = Goes StandBy silence
-givesUp h Else = Goes StandBy silence
+givesUp h Rq = Rests 0 silence
+givesUp h Else = Rests 0 silence
 
 dropped-block-is-caught : KeepsBy (stepBy (rowsWith givesUp opening receives asking)) → ⊥
 unfolding through stepping sound done firstNot isBlock mayHold trafficOf meaningOf heardOf firstOf isWords listened trafficIn
 dropped-block-is-caught claim =
-    let e = claim (clear (text 1 2 3) ∷ struck none ∷ faded none ∷ []) refl .1 .none-dropped (in-time StandBy refl) in
+    let e = claim (clear (text 1 2 3) ∷ struck none ∷ faded none ∷ []) refl .1 .none-dropped (in-time (resting 0) refl) in
     not-none 0 (sym (ap length e))
 
 -- "All else: send RQ RQ RQ" read as the block again: it is printed twice

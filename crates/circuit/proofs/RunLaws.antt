@@ -3,10 +3,12 @@
 --     carried        what is owed tells what a direction has carried
 --     hearer-keeps, sender-keeps   what is owed is the block that is held
 --     never-both     no phase has both at Sending
+--     sender-sends   nor one at Sending and one at Stand-by, that might place a call
+--     no-call-offered   a call is placed only where one is offered
 --     no-cs3-heard   no phase lets Opening hear CS3
 -- Assumes nothing.
 use mathlib.Core.Path.{_≡_, refl, ap, sym, subst, _∙_}
-use mathlib.Core.Bool.{Bool, true, false, _&&_, true≢false}
+use mathlib.Core.Bool.{Bool, true, false, _&&_, _||_, true≢false}
 use mathlib.Core.List.{List, [], _∷_, _++_, append-nil, append-assoc}
 use Prim.Native.Nat.{ℕ, _≤_}
 use native.Mathlib.Omega.{arith}
@@ -15,20 +17,24 @@ use Rattle.signals.specs.Numbers.{Answer, answered, refused}
 use Rattle.mode_a.specs.declared.Words.{Words}
 use Rattle.mode_a.specs.declared.Held.{Held}
 use Rattle.mode_a.specs.declared.Place.{Place}
-use Rattle.mode_a.specs.declared.Place.the-variants.{Sending, Opening, Lost}
+use Rattle.mode_a.specs.declared.Identity.{Identity}
+use Rattle.mode_a.specs.declared.Place.the-variants.{Sending, Turning, Opening, Ending, Receiving, Asking, StandBy, Lost, Calling}
 use Rattle.mode_a.specs.declared.Offer.{Offer}
 use Rattle.mode_a.specs.declared.Station.{Station}
 use Rattle.mode_a.specs.declared.Reply.{Reply}
 use Rattle.mode_a.specs.Station.{listOf}
-use Rattle.mode_a.specs.Heard.{First, Cs, Cs3, Rq, Else, firstOf}
-use Rattle.runs.specs.Places.{isSending, isOpening}
-use Rattle.runs.specs.Runs.{start, _▷_}
+use Rattle.mode_a.specs.declared.Waiting.{Waiting}
+use Rattle.mode_a.specs.Heard.{First, Cs, Cs3, Rq, Else, firstOf, callOf}
+use Rattle.mode_a.specs.Rows.{bothHeard}
+use Rattle.runs.specs.Places.{isSending, isOpening, isStandBy}
+use Rattle.runs.specs.Runs.{start, _▷_, isCall, taking}
 use Rattle.runs.proofs.PlaceLaws.{places-apart}
-use Rattle.runs.proofs.StepLaws.{answers}
-use Rattle.circuit.specs.Circuit.{Event, heard, Harmless, Run, traffic, signalsIn, Direction, Circuit, fresh, said, confirmedBy, acceptedBy, answeredBy, goesOn, next, after, AllHarmless}
+use Rattle.runs.proofs.StepLaws.{Answers, answers, by-listen, standby-answers, standby-listens}
+use Rattle.circuit.specs.Circuit.{Event, heard, Harmless, Run, traffic, signalsIn, Direction, nothingYet, Circuit, fresh, said, isTaken, placesCall, NoCallPlaced, confirmedBy, acceptedBy, answeredBy, goesOn, next, after, AllHarmless}
+use Rattle.circuit.specs.Starts.{CallPlaced, CallCompleted, Begins, with-block, with-end, Starts, both-fresh, placed, completed}
 use Rattle.circuit.specs.Demand.{Carried, inHand, Kept}
 use Rattle.circuit.proofs.DamageLaws.{Mangled, mangled, mangled-silence, FirstIs, first-heard}
-use Rattle.circuit.proofs.Link.{Owed, none, unheard, heard as accepted, Link, s1-block, s1-rqs, s1-own, s1-rqs′, s1-other, s2-rqs, s2-cs3, s3-any, s3-cs3, s4-rq, s4-rqs, s5-asks, s5-rq, e1-alphas, e1-any, e2-any, e2-any′, e3-silence, e3-any, e4-any, Told, waiting, ahead, At, here, gone, Says, aloud, no-more, Linked, Moved, stays, takes-block, confirms, confirms-and-takes, Came, nothing-new, came, After}
+use Rattle.circuit.proofs.Link.{Owed, none, unheard, heard as accepted, Link, s1-block, s1-rqs, s1-own, s1-rqs′, s1-other, s2-rqs, s2-cs3, s3-any, s3-cs3, s4-rq, s4-rqs, s5-asks, s5-rq, e1-alphas, e1-any, e2-any, e2-any′, e3-silence, e3-any, e4-any, c1-any, c1-silence, c2-call, c2-asks, Told, waiting, ahead, At, here, gone, Says, aloud, no-more, Linked, Moved, stays, takes-block, confirms, confirms-and-takes, Came, nothing-new, came, After}
 use Rattle.circuit.proofs.StepLaws.{idle, asks-first, acts-at}
 
 -- the lists of a direction
@@ -90,7 +96,7 @@ still-at s (aloud q i) = here q
 still-at s (no-more q i) = gone q
 
 linked-again : (c : Circuit) (o : Offer) (b : Words) (r : Reply) (l : Linked c) →
-    After o (l .owed-hearer) (l .owed-sender) (l .sender-at) r (confirmedBy (c .hearer) b) (acceptedBy (c .hearer) b) →
+    After (taking (c .hearer .place) (firstOf (b .0))) o (l .owed-hearer) (l .owed-sender) (l .sender-at) r (confirmedBy (c .hearer) b) (acceptedBy (c .hearer) b) →
     Linked (answeredBy c o b r)
 linked-again c o b r l a =
     record {
@@ -106,13 +112,45 @@ linked-again c o b r l a =
       told-sender = told-sent (c .from-hearer) (l .told-hearer) (a .sends);
     }
 
-pub linked-next : (c : Circuit) (e : Event) → Harmless e → Linked c → Linked (next c e)
-linked-next c e h l = go (said c e) refl
+-- at Stand-by no call is placed
+pub quiet : (c : Circuit) (e : Event) (r : Reply) → said c e ≡ answered r → placesCall c e ≡ false → isStandBy (c .hearer .place) ≡ true →
+    r .taken ≡ false
+quiet c e r i n s = sym (ap isTaken i) ∙ sym (rw s) ∙ n
+
+pub no-call-offered : (c : Circuit) (e : Event) → isCall (e .offer) ≡ false → placesCall c e ≡ false
+no-call-offered c e n = go (c .hearer .place) refl
+  where
+    silent : (w : Waiting) (a : Answer Reply) → c .hearer .place ≡ StandBy w → said c e ≡ a → isTaken a ≡ false
+    silent w (answered r) p i =
+        let y = answers (c .hearer) (heard e (c .burst)) (e .offer) r i in
+        by-both (bothHeard (w .heard) (callOf (c .hearer .own .four) (heard e (c .burst)))) refl y
+      where
+        by-both : (t : Bool) → bothHeard (w .heard) (callOf (c .hearer .own .four) (heard e (c .burst))) ≡ t →
+            Answers (c .hearer) (heard e (c .burst)) (e .offer) r → r .taken ≡ false
+        by-both true b y = ap (λ (r : Reply). r .taken) (standby-answers (c .hearer) (heard e (c .burst)) (e .offer) r y w p b)
+        by-both false b y =
+            ap (λ (r : Reply). r .taken) (standby-listens (c .hearer) (heard e (c .burst)) (e .offer) r y w p b)
+            ∙ by-listen (λ (r : Reply). r .taken ≡ false) (c .hearer) _ (e .offer) (λ x q z. absurd (true≢false (sym (ap isCall q) ∙ n))) refl
+    silent w (refused m v) p i = refl
+
+    go : (q : Place) → c .hearer .place ≡ q → isStandBy q && isTaken (said c e) ≡ false
+    go (StandBy w) p = silent w (said c e) p refl
+    go (Sending h) p = refl
+    go (Turning m) p = refl
+    go Opening p = refl
+    go (Ending d) p = refl
+    go (Receiving m) p = refl
+    go Asking p = refl
+    go Lost p = refl
+    go (Calling d) p = refl
+
+pub linked-next : (c : Circuit) (e : Event) → Harmless e → placesCall c e ≡ false → Linked c → Linked (next c e)
+linked-next c e h n l = go (said c e) refl
   where
     go : (a : Answer Reply) → said c e ≡ a → Linked (goesOn c e a)
     go (answered r) i =
         let y = answers (c .hearer) (heard e (c .burst)) (e .offer) r i in
-        linked-again c (e .offer) (heard e (c .burst)) r l (rw (y .is-done) (acts-at (c .hearer) (heard e (c .burst)) (e .offer) (l .hears) (l .link) (heard-mangled c e h (l .says)) (y .is-fine)))
+        linked-again c (e .offer) (heard e (c .burst)) r l (rw (y .is-done) (acts-at (c .hearer) (heard e (c .burst)) (e .offer) (l .hears) (l .link) (heard-mangled c e h (l .says)) (y .is-fine) (λ s. ap (λ (r : Reply). r .taken) (sym (y .is-done)) ∙ quiet c e r i n s)))
     go (refused n v) i = l
 
 -- every run
@@ -132,10 +170,81 @@ linked-fresh =
       told-sender = record { taken-is = refl; accepted-is = refl; printed-is = refl };
     }
 
-pub linked : (run : Run) → AllHarmless run → Linked (after run)
-unfolding after AllHarmless
-linked start a = linked-fresh
-linked (run ▷ e) a = linked-next (after run) e (a .1) (linked run (a .0))
+-- a call just placed, and a completed call
+none-told : (d : Direction) → d ≡ nothingYet → Told none d
+unfolding signalsIn
+none-told d e = rw e (record { taken-is = refl; accepted-is = refl; printed-is = refl })
+
+block-told : (b : Words) (d : Direction) → d ≡ record { taken = b ∷ []; accepted = []; printed = []; confirmed = [] } → Told (unheard b) d
+unfolding signalsIn
+block-told b d e = rw e (record { taken-is = refl; accepted-is = refl; printed-is = refl })
+
+linked-placed : (i : Identity) (c : Circuit) → CallPlaced i c → Linked c
+linked-placed i c y = go (c .hearer .place) refl (y .hearer-at)
+  where
+    go : (p : Place) → c .hearer .place ≡ p → isStandBy p ≡ true → Linked c
+    go (StandBy x) e s =
+        record {
+          hearer-at = _;
+          sender-at = _;
+          would-say = _;
+          owed-hearer = _;
+          owed-sender = _;
+          link = c1-any {x = x};
+          hears = here e;
+          says = aloud (ap (λ (s : Station). s .place) (y .sender-is)) refl;
+          told-hearer = none-told (c .from-hearer) (y .none-from-hearer);
+          told-sender = none-told (c .from-sender) (y .none-from-sender);
+        }
+    go (Sending h) e s = absurd (true≢false (sym s))
+    go (Turning n) e s = absurd (true≢false (sym s))
+    go Opening e s = absurd (true≢false (sym s))
+    go (Ending d) e s = absurd (true≢false (sym s))
+    go (Receiving n) e s = absurd (true≢false (sym s))
+    go Asking e s = absurd (true≢false (sym s))
+    go Lost e s = absurd (true≢false (sym s))
+    go (Calling d) e s = absurd (true≢false (sym s))
+
+linked-completed : (c : Circuit) → CallCompleted c → Linked c
+linked-completed c y = go (y .begins)
+  where
+    go : Begins c → Linked c
+    go (with-block {b = b} i p q d) =
+        record {
+          hearer-at = _;
+          sender-at = _;
+          would-say = _;
+          owed-hearer = _;
+          owed-sender = _;
+          link = s1-block i;
+          hears = here (y .hearer-place);
+          says = aloud p q;
+          told-hearer = none-told (c .from-hearer) (y .none-from-hearer);
+          told-sender = block-told b (c .from-sender) d;
+        }
+    go (with-end p q d) =
+        record {
+          hearer-at = _;
+          sender-at = _;
+          would-say = _;
+          owed-hearer = _;
+          owed-sender = _;
+          link = e1-alphas;
+          hears = here (y .hearer-place);
+          says = aloud p q;
+          told-hearer = none-told (c .from-hearer) (y .none-from-hearer);
+          told-sender = none-told (c .from-sender) d;
+        }
+
+linked-start : (c : Circuit) → Starts c → Linked c
+linked-start c both-fresh = linked-fresh
+linked-start c (placed {i = i} y) = linked-placed i c y
+linked-start c (completed y) = linked-completed c y
+
+pub linked : (c : Circuit) → Starts c → (run : Run) → AllHarmless run → NoCallPlaced c run → Linked (after c run)
+unfolding after AllHarmless NoCallPlaced
+linked c y start a n = linked-start c y
+linked c y (run ▷ e) a n = linked-next (after c run) e (a .1) (n .1) (linked c y run (a .0) (n .0))
 
 -- what is owed tells what a direction has carried
 left : Owed → List Words
@@ -183,10 +292,14 @@ owed-hearer (s5-rq r) = refl
 owed-hearer e1-alphas = refl
 owed-hearer e1-any = refl
 owed-hearer e2-any = refl
-owed-hearer e2-any′ = refl
+owed-hearer (e2-any′ q) = refl
 owed-hearer e3-silence = refl
-owed-hearer e3-any = refl
-owed-hearer e4-any = refl
+owed-hearer (e3-any q) = refl
+owed-hearer (e4-any q) = refl
+owed-hearer c1-any = refl
+owed-hearer c1-silence = refl
+owed-hearer (c2-call i j) = refl
+owed-hearer c2-asks = refl
 
 owed-sender : {x p : Place} {w : Words} {ox op : Owed} → Link x p w ox op → waiting op ≡ inHand p
 owed-sender l = owed-hearer (idle l .1)
@@ -217,28 +330,32 @@ sender-keeps c l = kept-by (l .owed-sender) (l .sender-at) (c .sender .place) (c
     go (aloud e j) n = e
     go (no-more e j) n = absurd (n e)
 
--- no phase has both at Sending
-not-both : {x p : Place} {w : Words} {ox op : Owed} → Link x p w ox op → isSending x && isSending p ≡ false
-not-both (s1-block i) = refl
-not-both (s1-rqs i) = refl
-not-both (s1-own i) = refl
-not-both s1-rqs′ = refl
-not-both s1-other = refl
-not-both s2-rqs = refl
-not-both s2-cs3 = refl
-not-both s3-any = refl
-not-both s3-cs3 = refl
-not-both (s4-rq r) = refl
-not-both s4-rqs = refl
-not-both s5-asks = refl
-not-both (s5-rq r) = refl
-not-both e1-alphas = refl
-not-both e1-any = refl
-not-both e2-any = refl
-not-both e2-any′ = refl
-not-both e3-silence = refl
-not-both e3-any = refl
-not-both e4-any = refl
+-- where one has sent from Sending, the other is not there, nor at Stand-by
+facing-sender : {x p : Place} {w : Words} {ox op : Owed} → Link x p w ox op → isSending p && (isSending x || isStandBy x) ≡ false
+facing-sender (s1-block i) = refl
+facing-sender (s1-rqs i) = refl
+facing-sender (s1-own i) = refl
+facing-sender s1-rqs′ = refl
+facing-sender s1-other = refl
+facing-sender s2-rqs = refl
+facing-sender s2-cs3 = refl
+facing-sender s3-any = refl
+facing-sender s3-cs3 = refl
+facing-sender (s4-rq r) = refl
+facing-sender s4-rqs = refl
+facing-sender s5-asks = refl
+facing-sender (s5-rq r) = refl
+facing-sender e1-alphas = refl
+facing-sender e1-any = refl
+facing-sender e2-any = refl
+facing-sender (e2-any′ q) = refl
+facing-sender e3-silence = refl
+facing-sender (e3-any q) = refl
+facing-sender (e4-any q) = refl
+facing-sender c1-any = refl
+facing-sender c1-silence = refl
+facing-sender (c2-call i j) = refl
+facing-sender c2-asks = refl
 
 -- a station that is not Lost is where its link says
 pub place-here : {x q : Place} (s : Station) → At s x → s .place ≡ q → (q ≡ Lost → ⊥) → x ≡ q
@@ -249,7 +366,21 @@ pub never-both : (c : Circuit) → Linked c → (h g : Held) → c .hearer .plac
 never-both c l h g p q =
     let i = place-here (c .hearer) (l .hears) p (places-apart (Sending h) Lost refl) in
     let j = place-here (c .sender) (still-at (c .sender) (l .says)) q (places-apart (Sending g) Lost refl) in
-    absurd (true≢false (rw (i, j) at (not-both (l .link))))
+    absurd (true≢false (rw (i, j) at (facing-sender (l .link))))
+
+or-left : (s t : Bool) → s || t ≡ false → t ≡ false
+or-left true t e = absurd (true≢false e)
+or-left false t e = e
+
+pub sender-sends : (c : Circuit) → Linked c → (h : Held) → c .sender .place ≡ Sending h → (e : Event) → placesCall c e ≡ false
+sender-sends c l h p e = go (l .hears)
+  where
+    go : At (c .hearer) (l .hearer-at) → placesCall c e ≡ false
+    go (here q) =
+        let j = place-here (c .sender) (still-at (c .sender) (l .says)) p (places-apart (Sending h) Lost refl) in
+        let f : (isSending (c .hearer .place) || isStandBy (c .hearer .place)) ≡ false = rw q (rw j at (facing-sender (l .link))) in
+        rw (or-left (isSending (c .hearer .place)) (isStandBy (c .hearer .place)) f)
+    go (gone q) = rw q
 
 -- what Opening hears
 abbrev isCs3 : First → Bool
@@ -276,10 +407,14 @@ no-cs3 (s5-rq r) = refl
 no-cs3 e1-alphas = refl
 no-cs3 e1-any = refl
 no-cs3 e2-any = refl
-no-cs3 e2-any′ = refl
+no-cs3 (e2-any′ q) = refl
 no-cs3 e3-silence = refl
-no-cs3 e3-any = refl
-no-cs3 e4-any = refl
+no-cs3 (e3-any q) = refl
+no-cs3 (e4-any q) = refl
+no-cs3 c1-any = refl
+no-cs3 c1-silence = refl
+no-cs3 (c2-call i j) = refl
+no-cs3 c2-asks = refl
 
 kept-cs3 : (f g : First) → FirstIs f g → g ≡ Cs3 → isCs3 f ≡ true
 kept-cs3 f g FirstIs.said e = rw e

@@ -1,7 +1,7 @@
 -- The stations of a run are sound: their counts are at most 31, an Ending total 1 to 4, and what is held is a block. So a step is
 -- refused only for its offer. Assumes nothing.
 use mathlib.Core.Path.{_≡_, refl, ap, _∙_}
-use mathlib.Core.Bool.{Bool, true, and-eq-true-iff}
+use mathlib.Core.Bool.{Bool, true, _&&_, and-eq-true-iff}
 use Prim.Native.Nat.{_+_}
 use native.Mathlib.Omega.{arith}
 use lib.Dec.{leb}
@@ -11,21 +11,22 @@ use Rattle.mode_a.specs.declared.Role.{Role}
 use Rattle.mode_a.specs.declared.Number.{Number}
 use Rattle.mode_a.specs.declared.Words.{Words}
 use Rattle.mode_a.specs.declared.Place.{Place}
-use Rattle.mode_a.specs.declared.Place.the-variants.{Sending, Turning, Opening, Ending, Receiving, Asking, StandBy, Lost}
+use Rattle.mode_a.specs.declared.Place.the-variants.{Sending, Turning, Opening, Ending, Receiving, Asking, StandBy, Lost, Calling}
 use Rattle.mode_a.specs.declared.Offer.{Offer}
 use Rattle.mode_a.specs.declared.Station.{Station}
 use Rattle.mode_a.specs.declared.Listening.{Listening}
 use Rattle.mode_a.specs.declared.Doing.{Doing}
-use Rattle.mode_a.specs.declared.Doing.the-variants.{Repeats, Goes, Takes, Receives, Opens, Accepts}
+use Rattle.mode_a.specs.declared.Doing.the-variants.{Repeats, Goes, Takes, Receives, Opens, Accepts, Rests, Answers, Listens, Reaches}
 use Rattle.mode_a.specs.declared.Reply.{Reply}
 use Rattle.mode_a.specs.Heard.{Heard, heardOf}
 use Rattle.mode_a.specs.Over.{listenedAll}
 use Rattle.mode_a.specs.Rows.{rowOf}
-use Rattle.mode_a.specs.Step.{takes, repeats, isOver, acceptsBy, done, soundPlace, sound}
+use Rattle.mode_a.specs.Step.{reached, takes, repeats, isOver, acceptsBy, done, soundPlace, sound}
 use Rattle.runs.specs.Runs.{start, _▷_, isAnswered, InOrder}
-use Rattle.runs.proofs.RowLaws.{by-sending, by-turning, by-opening, by-ending, by-receiving, by-asking}
-use Rattle.runs.proofs.StepLaws.{answers, is-answered, held-block, by-repeat, by-take-block, by-accept}
+use Rattle.runs.proofs.RowLaws.{by-sending, by-turning, by-opening, by-ending, by-receiving, by-asking, by-standing, by-calling}
+use Rattle.runs.proofs.StepLaws.{answers, is-answered, held-block, by-repeat, by-take-block, by-accept, by-listen}
 use Rattle.circuit.specs.Circuit.{Event, heard, Run, Circuit, said, goesOn, next, after}
+use Rattle.circuit.specs.Starts.{Begins, with-block, with-end, Starts, both-fresh, placed, completed}
 
 -- what a row may do at a sound place
 abbrev Fits : Doing → Type 0
@@ -35,17 +36,22 @@ Fits (Takes n) = Unit {0}
 Fits (Receives n) = Unit {0}
 Fits Opens = Unit {0}
 Fits (Accepts n) = Unit {0}
+Fits (Rests n w) = Unit {0}
+Fits Answers = Unit {0}
+Fits (Listens w) = Unit {0}
+Fits (Reaches i n) = Unit {0}
 
 row-fits : (r : Role) (x : Place) (h : Heard) → soundPlace x ≡ true → Fits (rowOf r x h)
 row-fits r (Sending b) h s = by-sending Fits b (h .first) (λ c. tt) (λ c. tt) (λ c. refl) (λ c. tt)
 row-fits r (Turning n) h s = by-turning Fits r n h tt tt tt
-row-fits r Opening h s = by-opening Fits r (h .first) (λ n. tt) refl tt
+row-fits r Opening h s = by-opening Fits r (h .first) (λ n. tt) tt tt
 row-fits r (Ending e) h s =
-    by-ending Fits e (h .first) refl (λ i. let l = leb-false 4 (e .total) i in rw (le-leb 1 (e .total + 1) (omega arith), le-leb (e .total + 1) 4 (omega arith)))
-row-fits r (Receiving n) h s = by-receiving Fits n h (λ c. tt) (λ c. refl) (λ c. tt)
+    by-ending Fits e (h .first) tt (λ i. let l = leb-false 4 (e .total) i in rw (le-leb 1 (e .total + 1) (omega arith), le-leb (e .total + 1) 4 (omega arith)))
+row-fits r (Receiving n) h s = by-receiving Fits n h (λ c. tt) (λ c. tt) (λ c. tt)
 row-fits r Asking h s = by-asking Fits h tt tt
-row-fits r StandBy h s = refl
+row-fits r (StandBy w) h s = by-standing Fits w h (λ c. tt) (λ c. tt)
 row-fits r Lost h s = refl
+row-fits r (Calling c) h s = by-calling Fits c (h .first) (λ n e i. tt) tt (λ i. refl)
 
 -- what the station then is
 Sound : Reply → Type 0
@@ -53,7 +59,7 @@ Sound r = sound (r .station) ≡ true
 
 takes-fit : (s : Station) (n : Number) (o : Offer) → InOrder o → Sound (takes s n o)
 unfolding sound Sound
-takes-fit s n o i = by-take-block Sound s n o i (λ w y. held-block w ∙ y) refl
+takes-fit s n o i = by-take-block Sound s n o i (λ w t y. held-block w ∙ y) refl
 
 accepts-fit : (s : Station) (n : Number) (b : Words) (t : Bool) (l : Listening) → Sound (acceptsBy s n b t l)
 unfolding sound Sound
@@ -73,6 +79,10 @@ done-fits s b o (Takes n) i y f = takes-fit s n o y
 done-fits s b o (Receives n) i y f = refl
 done-fits s b o Opens i y f = refl
 done-fits s b o (Accepts n) i y f = accepts-fit s n b (isOver o) (listenedAll (s .case) (s .plus) b)
+done-fits s b o (Rests n w) i y f = refl
+done-fits s b o Answers i y f = refl
+done-fits s b o (Listens w) i y f = by-listen Sound s w o (λ x e z. refl) refl
+done-fits s b o (Reaches x n) i y f = takes-fit (reached s x) n o y
 
 -- every run
 pub record BothSound (c : Circuit) : Type 0 where
@@ -88,14 +98,25 @@ sound-next c e s = go (said c e) refl
         let y = answers (c .hearer) (heard e (c .burst)) (e .offer) r i in
         record {
           hearer-sound = s .sender-sound;
-          sender-sound = ap (λ (r : Reply). sound (r .station)) (y .is-done) ∙ done-fits (c .hearer) (heard e (c .burst)) (e .offer) _ (s .hearer-sound) (y .is-fine) (row-fits (c .hearer .role) (c .hearer .place) (heardOf (heard e (c .burst))) (and-eq-true-iff (leb (c .hearer .count) 31) (soundPlace (c .hearer .place)) .0 (s .hearer-sound) .1));
+          sender-sound = ap (λ (r : Reply). sound (r .station)) (y .is-done) ∙ done-fits (c .hearer) (heard e (c .burst)) (e .offer) _ (s .hearer-sound) (y .is-fine) (row-fits (c .hearer .role) (c .hearer .place) (heardOf (c .hearer .own) (heard e (c .burst))) (and-eq-true-iff (leb (c .hearer .count) 31) (soundPlace (c .hearer .place)) .0 (s .hearer-sound) .1));
         }
     go (refused n v) i = s
 
-pub sound-run : (run : Run) → BothSound (after run)
-unfolding after sound
-sound-run start = record { hearer-sound = refl; sender-sound = refl }
-sound-run (run ▷ e) = sound-next (after run) e (sound-run run)
+-- of every start, and so of every run
+sound-start : (c : Circuit) → Starts c → BothSound c
+unfolding sound
+sound-start c both-fresh = record { hearer-sound = refl; sender-sound = refl }
+sound-start c (placed y) = record { hearer-sound = y .hearer-sound; sender-sound = rw (y .sender-is) }
+sound-start c (completed y) = record { hearer-sound = rw (y .hearer-place, y .hearer-count); sender-sound = go (y .begins) }
+  where
+    go : Begins c → leb (c .sender .count) 31 && soundPlace (c .sender .place) ≡ true
+    go (with-block {b = b} i p q d) = rw (y .sender-count, p) (held-block b ∙ i)
+    go (with-end p q d) = rw (y .sender-count, p)
+
+pub sound-run : (c : Circuit) → Starts c → (run : Run) → BothSound (after c run)
+unfolding after
+sound-run c y start = sound-start c y
+sound-run c y (run ▷ e) = sound-next (after c run) e (sound-run c y run)
 
 -- so a step is refused only for its offer
 pub answered-if : (c : Circuit) → BothSound c → (e : Event) → InOrder (e .offer) → isAnswered (said c e) ≡ true

@@ -47,7 +47,7 @@ stays-at-0 s v z i = rw z i
 
 taken-in-time : (s : Station) (n : Number) (o : Offer) → NotLost (takes s n o)
 unfolding NotLost
-taken-in-time s n o = by-take NotLost s n o (λ w. refl) refl
+taken-in-time s n o = by-take NotLost s n o (λ w t. refl) refl
 
 accepted-in-time : (s : Station) (n : Number) (b : Words) (t : Bool) (l : Listening) → NotLost (acceptsBy s n b t l)
 unfolding NotLost
@@ -55,12 +55,13 @@ accepted-in-time s n b t l = by-accept NotLost s n b t l (λ u. refl) refl
 
 -- Receiving that hears the offer's block, or ααα
 hears-offer : (s y : Station) (n : Number) (o p : Offer) → InOrder o →
-    NotLost (done y (takes s n o .sent) p (receiving n (heardOf (takes s n o .sent))))
+    NotLost (done y (takes s n o .sent) p (receiving n (heardOf (y .own) (takes s n o .sent))))
 unfolding NotLost done heardOf isBlock mayHold trafficOf meaningOf isWords
 hears-offer s y n (Offer.Text w) p i = rw i (accepted-in-time y n w (isOver p) (listenedAll (y .case) (y .plus) w))
 hears-offer s y n Offer.Over p i = accepted-in-time y n _ (isOver p) (listenedAll (y .case) (y .plus) _)
 hears-offer s y n Offer.End p i = refl
 hears-offer s y n Offer.Nothing p i = accepted-in-time y n _ (isOver p) (listenedAll (y .case) (y .plus) _)
+hears-offer s y n (Offer.Call x) p i = accepted-in-time y n _ (isOver p) (listenedAll (y .case) (y .plus) _)
 
 -- the sender, at a count of 0
 module _ (y : Station) (b : Words) (p : Offer) (zero-count : y .count ≡ 0) (here : isLost (y .place) ≡ false) where
@@ -84,9 +85,9 @@ module _ (y : Station) (b : Words) (p : Offer) (zero-count : y .count ≡ 0) (he
   at-ending e f = by-ending InTimeBy e f refl (λ l. refl)
 
 has-taken : (s : Station) (n : Number) (o : Offer) (b : Words) (p : Offer) → let y = takes s n o .station in
-    NotLost (done y b p (rowOf (y .role) (y .place) (heardOf b)))
+    NotLost (done y b p (rowOf (y .role) (y .place) (heardOf (y .own) b)))
 has-taken s n o b p =
-    by-take (λ (r : Reply). let y = r .station in NotLost (done y b p (rowOf (y .role) (y .place) (heardOf b)))) s n o (λ w. at-sending _ b p refl refl (held n w) (heardOf b .first)) (at-ending _ b p refl refl (record { number = n; total = 1 }) (heardOf b .first))
+    by-take (λ (r : Reply). let y = r .station in NotLost (done y b p (rowOf (y .role) (y .place) (heardOf (y .own) b)))) s n o (λ w t. at-sending _ b p refl refl (held n w) (heardOf (s .own) b .first)) (at-ending _ b p refl refl (record { number = n; total = 1 }) (heardOf (s .own) b .first))
 
 -- so neither is Lost then, nor in the exchange that follows
 module _ (s : Station) (x : Place) (r : Reply) where
@@ -105,5 +106,5 @@ module _ (s : Station) (x : Place) (r : Reply) where
   )
   goes-on y o₃ o₄ b r₃ r₄ (turns {n = n} p e) q a₃ a₄ = (
     in-time (r₃ .station .place) (rw (a₃ .is-done, q ∙ p, e)),
-    in-time (r₄ .station .place) (rw (a₄ .is-done, e) (at-turning (movedTo s (Turning n)) b o₄ refl refl n (heardOf b))),
+    in-time (r₄ .station .place) (rw (a₄ .is-done, e) (at-turning (movedTo s (Turning n)) b o₄ refl refl n (heardOf (s .own) b))),
   )

@@ -1,6 +1,7 @@
 -- 01, How the promises are judged: a fresh master and a fresh slave of mode A, no third sender: every run of the two.  R-094, R-172
+-- And 02, T-02: two stations of which one has called the other.
 --
--- "its first burst is CS1": the slave's CS1 is on the way when the run starts. Bursts alternate, and each is heard once: the
+-- "its first burst is CS1": the slave's CS1 is on the way when the run of fresh stations starts; after a call the master's burst is. Bursts alternate, and each is heard once: the
 -- station that hears answers, and the other hears that next. An event is what happens to the burst on the way, word by word,
 -- and the offer of the station that hears it.
 --
@@ -8,7 +9,7 @@
 -- the other, the signals it printed, and the blocks that the one counts as confirmed. No station keeps any of them.
 -- Assumes nothing.
 use mathlib.Core.Path.{_≡_}
-use mathlib.Core.Bool.{_&&_}
+use mathlib.Core.Bool.{Bool, false, _&&_}
 use mathlib.Core.List.{List, [], _∷_, _++_}
 use Prim.Native.Nat.{ℕ}
 use lib.Dec.{eqb}
@@ -26,8 +27,8 @@ use Rattle.mode_a.specs.Station.{words, listOf, freshMaster, freshSlave, firstB
 use Rattle.mode_a.specs.Heard.{First, firstOf, heardOf}
 use Rattle.mode_a.specs.Over.{cross, query}
 use Rattle.mode_a.specs.Step.{stepping}
-use Rattle.runs.specs.Places.{isSending, atSending}
-use Rattle.runs.specs.Runs.{RunOf, start, _▷_, confirming, accepting}
+use Rattle.runs.specs.Places.{isSending, isStandBy, atSending}
+use Rattle.runs.specs.Runs.{RunOf, start, _▷_, confirming, accepting, taking}
 
 pub record Event : Type 0 where
   pub first : Damage
@@ -70,19 +71,24 @@ abbrev pub nothingYet : Direction
 nothingYet = record { taken = []; accepted = []; printed = []; confirmed = [] }
 
 -- "take the offer .. Text gives that block, nothing gives βββ, over gives figures + ?": a block taken from an offer is the block of
--- an offer that is taken by a station that is at Sending after the step. An over taken at Receiving is no block, and end is none that is held.
+-- an offer where a row takes and the station is at Sending after the step. An over taken at Receiving is no block, and end is none
+-- that is held. A call that is offered there gives βββ (02, T-02) and is not reported as taken; its block counts all the same.
 abbrev pub blockOf : Offer → List Words
 blockOf (Offer.Text w) = w ∷ []
 blockOf Offer.Over = words figures cross query ∷ []
 blockOf Offer.End = []
 blockOf Offer.Nothing = words beta beta beta ∷ []
+blockOf (Offer.Call i) = words beta beta beta ∷ []
 
-abbrev pub takenBy : Offer → Reply → List Words
-takenBy o r = if r .taken && isSending (r .station .place) then blockOf o else []
+abbrev pub takenIf : Bool → Offer → Reply → List Words
+takenIf t o r = if t && isSending (r .station .place) then blockOf o else []
+
+abbrev pub takenBy : Station → Words → Offer → Reply → List Words
+takenBy s b o r = takenIf (taking (s .place) (firstOf (b .0))) o r
 
 -- "Receiving .. Three intact words, each traffic or β: accepted"
 abbrev pub acceptedBy : Station → Words → List Words
-acceptedBy s b = if accepting (s .place) (heardOf b) then b ∷ [] else []
+acceptedBy s b = if accepting (s .place) (heardOf (s .own) b) then b ∷ [] else []
 
 -- "up to three printed signals": the words of the reply, without its zeros
 abbrev pub withoutZeros : List ℕ → List ℕ
@@ -134,7 +140,7 @@ answeredBy c o b r =
         confirmed = c .from-sender .confirmed;
       };
       from-sender = record {
-        taken = c .from-hearer .taken ++ takenBy o r;
+        taken = c .from-hearer .taken ++ takenBy (c .hearer) b o r;
         accepted = c .from-hearer .accepted;
         printed = c .from-hearer .printed;
         confirmed = c .from-hearer .confirmed ++ confirmedBy (c .hearer) b;
@@ -148,12 +154,25 @@ goesOn c e (refused n v) = c
 abbrev pub next : Circuit → Event → Circuit
 next c e = goesOn c e (said c e)
 
-unfoldable pub after : Run → Circuit
-after start = fresh
-after (run ▷ e) = next (after run) e
+unfoldable pub after : Circuit → Run → Circuit
+after c start = c
+after c (run ▷ e) = next (after c run) e
 
 -- the runs that demand 3 speaks of: no damage looks like one of the 35. An offer that is refused is no step; demand 3 leaves runs with
 -- refused offers out, and here they are covered too.
 unfoldable pub AllHarmless : Run → Type 0
 AllHarmless start = Unit {0}
 AllHarmless (run ▷ e) = AllHarmless run × Harmless e
+
+-- "A run of demand 3 ends where a station at Stand-by places a call, of this kind or a later one" (02, T-02): such an event is no step of
+-- a run. What a station at Stand-by takes is a call.  R-194
+abbrev pub isTaken : Answer Reply → Bool
+isTaken (answered r) = r .taken
+isTaken (refused n v) = false
+
+abbrev pub placesCall : Circuit → Event → Bool
+placesCall c e = isStandBy (c .hearer .place) && isTaken (said c e)
+
+unfoldable pub NoCallPlaced : Circuit → Run → Type 0
+NoCallPlaced c start = Unit {0}
+NoCallPlaced c (run ▷ e) = NoCallPlaced c run × (placesCall (after c run) e ≡ false)

@@ -1,4 +1,4 @@
--- 01, How the promises are judged: demand 3, of every run of a fresh master and a fresh slave.  R-172
+-- 01, How the promises are judged: demand 3, of every run of a fresh master and a fresh slave, and of every run after a call.  R-172
 -- Assumes nothing.
 use mathlib.Core.Path.{_≡_}
 use mathlib.Core.Bool.{true}
@@ -14,7 +14,8 @@ use Rattle.mode_a.specs.Station.{RQ×3}
 use Rattle.mode_a.specs.Heard.{Cs3, firstOf}
 use Rattle.runs.specs.Places.{atSending}
 use Rattle.runs.specs.Runs.{isAnswered, InOrder}
-use Rattle.circuit.specs.Circuit.{Event, heard, Harmless, Whole, Run, signalsIn, Direction, Circuit, said, next, after, AllHarmless}
+use Rattle.circuit.specs.Circuit.{Event, heard, Harmless, Whole, Run, signalsIn, Direction, Circuit, said, next, after, AllHarmless, NoCallPlaced}
+use Rattle.circuit.specs.Starts.{Starts}
 
 -- one list is a beginning of another
 pub record Beginning (A : Type 0) (begun whole : List A) : Type 0 where
@@ -97,4 +98,4 @@ pub record Demand3 (c : Circuit) : Type 0 where
 
 -- of every run
 abbrev pub OfEveryRun : Type 0
-OfEveryRun = (run : Run) → AllHarmless run → Demand3 (after run)
+OfEveryRun = (c : Circuit) → Starts c → (run : Run) → AllHarmless run → NoCallPlaced c run → Demand3 (after c run)

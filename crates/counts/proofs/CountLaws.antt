@@ -1,6 +1,8 @@
 -- The repetition count, Ending's four and Stand-by, of every run from a fresh station.  R-072, R-084, R-085, R-096 to R-100
---     counted   for a fresh master, for a fresh slave, and for any station that starts with count 0 at a place other than Lost and
---               Ending
+--     counted   for a fresh master, for a fresh slave, for a station made at Stand-by, and for any station that starts with count 0 at
+--               a place other than Lost and Ending
+--     uncallable-is-silent, uncallable-for-good   Stand-by without an identity, as of the fresh ones of 01: silent for good but for a call
+--               that is offered
 -- Assumes nothing.
 use mathlib.Core.Path.{_≡_, refl, ap, sym, subst, _∙_}
 use mathlib.Core.Bool.{Bool, true, false, _&&_, true≢false}
@@ -12,48 +14,52 @@ use borrow.Author.Tests.{leb-true, leb-false, eq-eqb, ne-eqb}
 use Rattle.laws.specs.Choice.{if_then_else_}
 use Rattle.signals.specs.Numbers.{Answer, answered, refused}
 use Rattle.mode_a.specs.declared.Words.{Words}
-use Rattle.mode_a.specs.declared.Place.the-variants.{StandBy}
+use Rattle.mode_a.specs.declared.Mark.{Mark}
+use Rattle.mode_a.specs.declared.Identity.{Identity}
 use Rattle.mode_a.specs.declared.Offer.{Offer}
 use Rattle.mode_a.specs.declared.Station.{Station}
 use Rattle.mode_a.specs.declared.Reply.{Reply}
-use Rattle.mode_a.specs.Station.{silence, freshMaster, freshSlave}
-use Rattle.mode_a.specs.Heard.{heardOf}
+use Rattle.mode_a.specs.Calls.{isCallable}
+use Rattle.mode_a.specs.Station.{silence, freshMaster, freshSlave, freshAt}
+use Rattle.mode_a.specs.Heard.{callOf, heardOf}
 use Rattle.mode_a.specs.Rows.{rowOf}
-use Rattle.mode_a.specs.Step.{movedTo, sends, done, sound, stepping, stationAfter}
-use Rattle.runs.specs.Places.{isLost}
-use Rattle.runs.specs.Runs.{Event, Run, start, _▷_, said, after}
-use Rattle.runs.proofs.StepLaws.{answers, is-answered, standby-stays, keeps}
+use Rattle.mode_a.specs.Step.{done, sound, stepping, stationAfter}
+use Rattle.runs.specs.Places.{isStandBy, isLost, counting}
+use Rattle.runs.specs.Runs.{Event, Run, start, _▷_, said, after, isCall}
+use Rattle.runs.proofs.StepLaws.{answers, is-answered, own-lasts, keeps}
 use Rattle.counts.specs.Runs.{stays, uncounted, repetition, goesOn, inARow, sentααα, alphasInARow}
 use Rattle.counts.specs.Counts.{Counted}
 use Rattle.counts.proofs.StepLaws.{Fact, step-fact, isRepeats}
 use Rattle.counts.proofs.EndLaws.{Total, totalOf, total-next, after-four, ending-total}
+use Rattle.counts.proofs.StandByLaws.{prints-nothing, takes-calls-alone, is-silent, stays-there, uncallable-hears-none}
 
 -- an answer is what the row did
-fact-of : (s : Station) (b : Words) (o : Offer) (r : Reply) → stepping s b o ≡ answered r → Fact s (heardOf b) (rowOf (s .role) (s .place) (heardOf b)) r
-fact-of s b o r e = rw (answers s b o r e .is-done) (step-fact s b o (heardOf b))
+fact-of : (s : Station) (b : Words) (o : Offer) (r : Reply) → stepping s b o ≡ answered r → Fact s (heardOf (s .own) b) (rowOf (s .role) (s .place) (heardOf (s .own) b)) r
+fact-of s b o r e = rw (answers s b o r e .is-done) (step-fact s b o (heardOf (s .own) b))
 
 -- and so is the answer of the same station with count 0
-uncounted-is : (s : Station) (b : Words) (o : Offer) (r : Reply) → stepping s b o ≡ answered r → stepping (uncounted s) b o ≡ answered (done (uncounted s) b o (rowOf (s .role) (s .place) (heardOf b)))
+uncounted-is : (s : Station) (b : Words) (o : Offer) (r : Reply) → stepping s b o ≡ answered r → stepping (uncounted s) b o ≡ answered (done (uncounted s) b o (rowOf (s .role) (s .place) (heardOf (s .own) b)))
 unfolding sound
 uncounted-is s b o r e = let a = answers s b o r e in is-answered (uncounted s) b o (a .is-sound) (a .is-fine)
 
 -- so a step is a repetition exactly where the row repeats
-told-of : (s : Station) (e : Event) (r : Reply) → stepping s (e .burst) (e .offer) ≡ answered r → repetition s e ≡ isRepeats (rowOf (s .role) (s .place) (heardOf (e .burst)))
+told-of : (s : Station) (e : Event) (r : Reply) → stepping s (e .burst) (e .offer) ≡ answered r → repetition s e ≡ isRepeats (rowOf (s .role) (s .place) (heardOf (s .own) (e .burst)))
 told-of s e r p =
-    ap (λ (a : Answer Reply). stays (s .place) (heardOf (e .burst)) (stationAfter (uncounted s) a .place)) (uncounted-is s (e .burst) (e .offer) r p) ∙ step-fact (uncounted s) (e .burst) (e .offer) (heardOf (e .burst)) .told refl
+    ap (λ (a : Answer Reply). stays (s .place) (heardOf (s .own) (e .burst)) (stationAfter (uncounted s) a .place)) (uncounted-is s (e .burst) (e .offer) r p) ∙ step-fact (uncounted s) (e .burst) (e .offer) (heardOf (s .own) (e .burst)) .told refl
 
 -- what is kept from step to step: k repetitions in a row
 record Kept (s : Station) (k : ℕ) : Type 0 where
   counts : isLost (s .place) ≡ false → s .count ≡ k
   small : isLost (s .place) ≡ false → k ≤ 31
   zero-lost : isLost (s .place) ≡ true → s .count ≡ 0
+  elsewhere : counting (s .place) ≡ false → s .count ≡ 0
 
-module _ (s : Station) (k : ℕ) (kept : Kept s k) (b : Words) (r : Reply) (f : Fact s (heardOf b) (rowOf (s .role) (s .place) (heardOf b)) r) (again : Bool) (told : again ≡ isRepeats (rowOf (s .role) (s .place) (heardOf b))) where
+module _ (s : Station) (k : ℕ) (kept : Kept s k) (b : Words) (r : Reply) (f : Fact s (heardOf (s .own) b) (rowOf (s .role) (s .place) (heardOf (s .own) b)) r) (again : Bool) (told : again ≡ isRepeats (rowOf (s .role) (s .place) (heardOf (s .own) b))) where
   -- not Lost before: Lost exactly by the 32nd
   by-32 : isLost (s .place) ≡ false → isLost (r .station .place) ≡ again && eqb k 31
-  by-32 nl = rw told (go (isRepeats (rowOf (s .role) (s .place) (heardOf b))) refl)
+  by-32 nl = rw told (go (isRepeats (rowOf (s .role) (s .place) (heardOf (s .own) b))) refl)
     where
-      go : (t : Bool) → isRepeats (rowOf (s .role) (s .place) (heardOf b)) ≡ t → isLost (r .station .place) ≡ t && eqb k 31
+      go : (t : Bool) → isRepeats (rowOf (s .role) (s .place) (heardOf (s .own) b)) ≡ t → isLost (r .station .place) ≡ t && eqb k 31
       go true e = f .repeated e .0 ∙ rw (kept .counts nl) (tests (leb 31 k) refl)
         where
           tests : (v : Bool) → leb 31 k ≡ v → v ≡ eqb k 31
@@ -62,9 +68,9 @@ module _ (s : Station) (k : ℕ) (kept : Kept s k) (b : Words) (r : Reply) (f : 
       go false e = f .no-lost e nl
 
   next : Kept (r .station) (if again then suc k else 0)
-  next = rw told (go (isRepeats (rowOf (s .role) (s .place) (heardOf b))) (isLost (s .place)) refl refl)
+  next = rw told (go (isRepeats (rowOf (s .role) (s .place) (heardOf (s .own) b))) (isLost (s .place)) refl refl)
     where
-      go : (t l : Bool) → isRepeats (rowOf (s .role) (s .place) (heardOf b)) ≡ t → isLost (s .place) ≡ l → Kept (r .station) (if t then suc k else 0)
+      go : (t l : Bool) → isRepeats (rowOf (s .role) (s .place) (heardOf (s .own) b)) ≡ t → isLost (s .place) ≡ l → Kept (r .station) (if t then suc k else 0)
       go true true e l = absurd (true≢false (sym e ∙ f .stays-lost l .0))
       go true false e l = tests (leb 31 (s .count)) refl
         where
@@ -74,21 +80,23 @@ module _ (s : Station) (k : ℕ) (kept : Kept s k) (b : Words) (r : Reply) (f : 
                 counts = λ x. absurd (true≢false (sym (rw p at (f .repeated e .0)) ∙ x));
                 small = λ x. absurd (true≢false (sym (rw p at (f .repeated e .0)) ∙ x));
                 zero-lost = λ x. rw p at (f .repeated e .1);
+                elsewhere = f .elsewhere;
               }
           tests false p =
               record {
                 counts = λ x. (rw p at (f .repeated e .1)) ∙ add-one (s .count) ∙ ap suc (kept .counts l);
                 small = λ x. let h = leb-false 31 (s .count) p in let i = kept .counts l in omega arith;
                 zero-lost = λ x. absurd (true≢false (sym x ∙ (rw p at (f .repeated e .0))));
+                elsewhere = f .elsewhere;
               }
       go false l e p =
-          record { counts = λ x. f .moved e; small = λ x. omega arith; zero-lost = λ x. f .moved e }
+          record { counts = λ x. f .moved e; small = λ x. omega arith; zero-lost = λ x. f .moved e; elsewhere = f .elsewhere }
 
 module _ (fresh : Station) (none : fresh .count ≡ 0) (open-place : isLost (fresh .place) ≡ false) (none-sent : totalOf (fresh .place) ≡ 0) where
   kept-run : (run : Run) → Kept (after fresh run) (inARow fresh run)
   unfolding inARow
   kept-run start =
-      record { counts = λ x. none; small = λ x. omega arith; zero-lost = λ x. none }
+      record { counts = λ x. none; small = λ x. omega arith; zero-lost = λ x. none; elsewhere = λ x. none }
   kept-run (run ▷ e) = go (kept-run run) (said (after fresh run) e) refl
     where
       go : Kept (after fresh run) (inARow fresh run) → (a : Answer Reply) → said (after fresh run) e ≡ a → Kept (stationAfter (after fresh run) a) (goesOn a (repetition (after fresh run) e) (inARow fresh run))
@@ -105,17 +113,17 @@ module _ (fresh : Station) (none : fresh .count ≡ 0) (open-place : isLost (fre
       go k (answered r) p = total-next (after fresh run) (e .burst) (e .offer) r (alphasInARow fresh run) p k
       go k (refused n v) p = k
 
-  standby : (run : Run) (e : Event) (r : Reply) → said (after fresh run) e ≡ answered r → after fresh run .place ≡ StandBy → r ≡ sends (movedTo (after fresh run) StandBy) silence
-  standby run e r p = standby-stays (after fresh run) (e .burst) (e .offer) r (answers (after fresh run) (e .burst) (e .offer) r p)
+  unheard-run : (run : Run) (b : Words) → callOf (fresh .own .four) b ≡ Mark.None → callOf (after fresh run .own .four) b ≡ Mark.None
+  unheard-run run b h = rw (own-lasts fresh run) h
 
   -- Lost and Stand-by stay
   lost-run : (run : Run) (e : Event) → isLost (after fresh run .place) ≡ true → isLost (after fresh (run ▷ e) .place) ≡ true
   lost-run run e =
       keeps (λ (s : Station). isLost (s .place) ≡ true) (after fresh run) e (λ r p l. fact-of (after fresh run) (e .burst) (e .offer) r p .stays-lost l .1)
 
-  standby-run : (run : Run) (e : Event) → after fresh run .place ≡ StandBy → after fresh (run ▷ e) .place ≡ StandBy
-  standby-run run e =
-      keeps (λ (s : Station). s .place ≡ StandBy) (after fresh run) e (λ r p n. ap (λ (r : Reply). r .station .place) (standby run e r p n))
+  standby-run : (run : Run) (e : Event) → isStandBy (after fresh run .place) ≡ true → callOf (fresh .own .four) (e .burst) ≡ Mark.None → isCall (e .offer) ≡ false → isStandBy (after fresh (run ▷ e) .place) ≡ true
+  standby-run run e n h c =
+      keeps (λ (s : Station). isStandBy (s .place) ≡ true) (after fresh run) e (λ r p n. stays-there (after fresh run) (e .burst) (e .offer) r p n c (unheard-run run (e .burst) h)) n
 
   pub counted : (run : Run) → Counted fresh run
   counted run =
@@ -123,13 +131,16 @@ module _ (fresh : Station) (none : fresh .count ≡ 0) (open-place : isLost (fre
         counts = kept-run run .counts;
         at-most = kept-run run .small;
         lost-counts = kept-run run .zero-lost;
+        elsewhere-counts = kept-run run .elsewhere;
         lost-by-the-32nd = λ e r p nl. by-32 (after fresh run) (inARow fresh run) (kept-run run) (e .burst) r (fact-of (after fresh run) (e .burst) (e .offer) r p) (repetition (after fresh run) e) (told-of (after fresh run) e r p) nl;
         lost-is-silent = λ e r p l. fact-of (after fresh run) (e .burst) (e .offer) r p .silent l;
         lost-for-good = lost-run run;
         totals = λ x p. ending-total x (after fresh run .place) p ∙ total-run run .is;
         four-at-most = subst (λ (n : ℕ). n ≤ 4) (total-run run .is) (total-run run .four);
         standby-after-four = λ e r p n. after-four (after fresh run) (e .burst) (e .offer) r p (total-run run .is ∙ n);
-        standby-is-silent = λ e r p n. rw (standby run e r p n) (refl, refl, refl);
+        standby-prints-nothing = λ e r p n. prints-nothing (after fresh run) (e .burst) (e .offer) r p n;
+        standby-takes-calls-alone = λ e r p n c. takes-calls-alone (after fresh run) (e .burst) (e .offer) r p n c;
+        standby-is-silent = λ e r p n h c. is-silent (after fresh run) (e .burst) (e .offer) r p n c (unheard-run run (e .burst) h);
         standby-for-good = standby-run run;
       }
 
@@ -138,3 +149,16 @@ master-counted = counted freshMaster refl refl refl
 
 pub slave-counted : (run : Run) → Counted freshSlave run
 slave-counted = counted freshSlave refl refl refl
+
+-- 02, T-02: a station at Stand-by, with the identity by which it is called
+pub standing-counted : (i : Identity) (run : Run) → Counted (freshAt i) run
+standing-counted i = counted (freshAt i) refl refl refl
+
+-- "Stand-by .. silent for good", of a station without an identity by which it could be called, while no call is offered: what it hears
+-- does not matter
+module _ (fresh : Station) (none : isCallable (fresh .own .four) ≡ false) (run : Run) (all : Counted fresh run) (here : isStandBy (after fresh run .place) ≡ true) (e : Event) (not-offered : isCall (e .offer) ≡ false) where
+  pub uncallable-is-silent : (r : Reply) → stepping (after fresh run) (e .burst) (e .offer) ≡ answered r → r .sent ≡ silence
+  uncallable-is-silent r p = all .standby-is-silent e r p here (uncallable-hears-none (fresh .own .four) (e .burst) none) not-offered
+
+  pub uncallable-for-good : isStandBy (after fresh (run ▷ e) .place) ≡ true
+  uncallable-for-good = all .standby-for-good e here (uncallable-hears-none (fresh .own .four) (e .burst) none) not-offered

@@ -1,6 +1,6 @@
 -- One step: it is a repetition exactly where the row repeats, and what that does to the count and to the place. Assumes nothing.
 use mathlib.Core.Path.{_≡_, refl, sym, _∙_}
-use mathlib.Core.Bool.{Bool, true, false, true≢false}
+use mathlib.Core.Bool.{Bool, true, false, true≢false, and-eq-true-iff}
 use Prim.Native.Nat.{_+_}
 use lib.Dec.{leb}
 use Rattle.laws.specs.Choice.{if_then_else_}
@@ -9,20 +9,20 @@ use Rattle.mode_a.specs.declared.Words.{Words}
 use Rattle.mode_a.specs.declared.Held.{Held}
 use Rattle.mode_a.specs.declared.Ended.{Ended}
 use Rattle.mode_a.specs.declared.Place.{Place}
-use Rattle.mode_a.specs.declared.Place.the-variants.{Sending, Turning, Opening, Ending, Receiving, Asking, StandBy, Lost}
+use Rattle.mode_a.specs.declared.Place.the-variants.{Sending, Turning, Opening, Ending, Receiving, Asking, StandBy, Lost, Calling}
 use Rattle.mode_a.specs.declared.Offer.{Offer}
 use Rattle.mode_a.specs.declared.Station.{Station}
 use Rattle.mode_a.specs.declared.Doing.{Doing}
-use Rattle.mode_a.specs.declared.Doing.the-variants.{Repeats, Goes, Takes, Receives, Opens, Accepts}
+use Rattle.mode_a.specs.declared.Doing.the-variants.{Repeats, Goes, Takes, Receives, Opens, Accepts, Rests, Answers, Listens, Reaches}
 use Rattle.mode_a.specs.declared.Reply.{Reply}
 use Rattle.mode_a.specs.Station.{silence}
 use Rattle.mode_a.specs.Heard.{Heard}
 use Rattle.mode_a.specs.Over.{listenedAll}
 use Rattle.mode_a.specs.Rows.{rowOf}
-use Rattle.mode_a.specs.Step.{done, takes, isOver}
-use Rattle.runs.specs.Places.{isLost}
-use Rattle.runs.proofs.RowLaws.{by-sending, by-turning, by-opening, by-ending, by-receiving, by-asking}
-use Rattle.runs.proofs.StepLaws.{placed, by-repeat, by-take, by-accept}
+use Rattle.mode_a.specs.Step.{done, takes, reached, isOver}
+use Rattle.runs.specs.Places.{isLost, counting}
+use Rattle.runs.proofs.RowLaws.{by-sending, by-turning, by-opening, by-ending, by-receiving, by-asking, by-standing, by-calling}
+use Rattle.runs.proofs.StepLaws.{placed, by-repeat, by-take, by-accept, by-listen}
 use Rattle.counts.specs.Runs.{stays}
 
 abbrev pub isRepeats : Doing → Bool
@@ -32,6 +32,10 @@ isRepeats (Takes n) = false
 isRepeats (Receives n) = false
 isRepeats Opens = false
 isRepeats (Accepts n) = false
+isRepeats (Rests n w) = false
+isRepeats Answers = false
+isRepeats (Listens w) = false
+isRepeats (Reaches i n) = false
 
 -- what holds of a step from the place p that hears h and does d
 pub record Fact (s : Station) (h : Heard) (d : Doing) (r : Reply) : Type 0 where
@@ -39,8 +43,14 @@ pub record Fact (s : Station) (h : Heard) (d : Doing) (r : Reply) : Type 0 where
   pub stays-lost : isLost (s .place) ≡ true → (isRepeats d ≡ false) × (isLost (r .station .place) ≡ true)
   pub repeated : isRepeats d ≡ true → (isLost (r .station .place) ≡ leb 31 (s .count)) × (r .station .count ≡ (if leb 31 (s .count) then 0 else s .count + 1))
   pub moved : isRepeats d ≡ false → r .station .count ≡ 0
+  pub elsewhere : counting (r .station .place) ≡ false → r .station .count ≡ 0
   pub no-lost : isRepeats d ≡ false → isLost (s .place) ≡ false → isLost (r .station .place) ≡ false
   pub silent : isLost (r .station .place) ≡ true → (r .sent ≡ silence) × (r .printed ≡ silence) × (r .taken ≡ false)
+
+-- where staying is told as a repetition, repetitions count
+counts-here : (p : Place) (h : Heard) → stays p h p ≡ true → counting p ≡ true
+unfolding stays
+counts-here p h e = and-eq-true-iff _ _ .0 e .0
 
 -- a row that repeats, at a place that is not Lost, where staying is told as a repetition
 again : (s : Station) (h : Heard) (b : Words) (o : Offer) (w : Words) → isLost (s .place) ≡ false → stays (s .place) h (s .place) ≡ true → Fact s h (Repeats w) (done s b o (Repeats w))
@@ -51,6 +61,7 @@ again s h b o w kept same =
       stays-lost = λ l. absurd (true≢false (sym l ∙ kept));
       repeated = λ x. rw e (refl, refl);
       moved = λ x. absurd (true≢false x);
+      elsewhere = λ x. refl;
       no-lost = λ x. absurd (true≢false x);
       silent = λ x. (refl, refl, refl);
     }) (λ e. record {
@@ -58,6 +69,7 @@ again s h b o w kept same =
       stays-lost = λ l. absurd (true≢false (sym l ∙ kept));
       repeated = λ x. rw e (kept, refl);
       moved = λ x. absurd (true≢false x);
+      elsewhere = λ x. absurd (true≢false (sym (counts-here (s .place) h same) ∙ x));
       no-lost = λ x. absurd (true≢false x);
       silent = λ x. absurd (true≢false (sym x ∙ kept));
     })
@@ -70,14 +82,15 @@ else-fact s h d r e told kept zero-now after =
       stays-lost = λ l. absurd (true≢false (sym l ∙ kept));
       repeated = λ x. absurd (true≢false (sym x ∙ e));
       moved = λ x. zero-now;
+      elsewhere = λ x. zero-now;
       no-lost = λ x y. after;
       silent = λ x. absurd (true≢false (sym x ∙ after));
     }
 
--- an offer taken: the station is at Sending or Ending then, with count 0
-taken-fact : (s : Station) (h : Heard) (n : Number) (o : Offer) → ((x : Held) → stays (s .place) h (Sending x) ≡ false) → ((e : Ended) → stays (s .place) h (Ending e) ≡ false) → isLost (s .place) ≡ false → Fact s h (Takes n) (takes s n o)
-taken-fact s h n o holds ends kept =
-    by-take (Fact s h (Takes n)) s n o (λ w. else-fact s h (Takes n) _ refl (holds _) kept refl refl) (else-fact s h (Takes n) _ refl (ends _) kept refl refl)
+-- an offer taken, by the station itself or by it with another at the other end: it is at Sending or Ending then, with count 0
+taken-fact : (s s′ : Station) (h : Heard) (d : Doing) (n : Number) (o : Offer) → isRepeats d ≡ false → ((x : Held) → stays (s .place) h (Sending x) ≡ false) → ((e : Ended) → stays (s .place) h (Ending e) ≡ false) → isLost (s .place) ≡ false → Fact s h d (takes s′ n o)
+taken-fact s s′ h d n o none holds ends kept =
+    by-take (Fact s h d) s′ n o (λ w t. else-fact s h d _ none (holds _) kept refl refl) (else-fact s h d _ none (ends _) kept refl refl)
 
 module _ (s : Station) (b : Words) (o : Offer) (h : Heard) where
   abbrev Row : Place → Doing → Type 0
@@ -86,26 +99,30 @@ module _ (s : Station) (b : Words) (o : Offer) (h : Heard) where
   row-fact : (p : Place) → Row p (rowOf (s .role) p h)
   unfolding done stays
   row-fact (Sending x) =
-      by-sending (Row (Sending x)) x (h .first) (λ y. again _ h b o _ refl (rw y)) (λ y. taken-fact _ h _ o (λ z. rw y) (λ z. rw y) refl) (λ y. else-fact _ h _ _ refl (rw y) refl refl refl) (λ y. again _ h b o _ refl (rw y))
+      by-sending (Row (Sending x)) x (h .first) (λ y. again _ h b o _ refl (rw y)) (λ y. taken-fact _ _ h _ _ o refl (λ z. rw y) (λ z. rw y) refl) (λ y. else-fact _ h _ _ refl (rw y) refl refl refl) (λ y. again _ h b o _ refl (rw y))
   row-fact (Turning n) =
       by-turning (Row (Turning n)) (s .role) n h (else-fact _ h _ _ refl refl refl refl refl) (again _ h b o _ refl refl) (again _ h b o _ refl refl)
   row-fact Opening =
-      by-opening (Row Opening) (s .role) (h .first) (λ n. taken-fact _ h n o (λ z. refl) (λ z. refl) refl) (else-fact _ h _ _ refl refl refl refl refl) (again _ h b o _ refl refl)
+      by-opening (Row Opening) (s .role) (h .first) (λ n. taken-fact _ _ h _ n o refl (λ z. refl) (λ z. refl) refl) (else-fact _ h _ _ refl refl refl refl refl) (again _ h b o _ refl refl)
   row-fact (Ending x) =
       by-ending (Row (Ending x)) x (h .first) (else-fact _ h _ _ refl refl refl refl refl) (λ l. else-fact _ h _ _ refl refl refl refl refl)
   row-fact (Receiving n) =
       by-receiving (Row (Receiving n)) n h (λ y. by-accept (Fact (placed s (Receiving n)) h (Accepts n)) _ n b (isOver o) (listenedAll (s .case) (s .plus) b) (λ u. else-fact _ h _ _ refl (rw y) refl refl refl) (else-fact _ h _ _ refl (rw y) refl refl refl)) (λ y. else-fact _ h _ _ refl (rw y) refl refl refl) (λ y. again _ h b o _ refl (rw y))
   row-fact Asking = by-asking (Row Asking) h (else-fact _ h _ _ refl refl refl refl refl) (again _ h b o _ refl refl)
-  row-fact StandBy = else-fact _ h _ _ refl refl refl refl refl
+  row-fact (StandBy w) =
+      by-standing (Row (StandBy w)) w h (λ y. else-fact _ h _ _ refl refl refl refl refl) (λ y. by-listen (Fact (placed s (StandBy w)) h (Listens _)) (placed s (StandBy w)) _ o (λ i c z. else-fact _ h _ _ refl refl refl refl refl) (else-fact _ h _ _ refl refl refl refl refl))
   row-fact Lost =
       record {
         told = λ x. refl;
         stays-lost = λ l. (refl, refl);
         repeated = λ x. absurd (true≢false (sym x));
         moved = λ x. refl;
+        elsewhere = λ x. refl;
         no-lost = λ x y. absurd (true≢false y);
         silent = λ x. (refl, refl, refl);
       }
+  row-fact (Calling c) =
+      by-calling (Row (Calling c)) c (h .first) (λ n f m. taken-fact _ (reached (placed s (Calling c)) (c .to)) h _ n o refl (λ z. refl) (λ z. refl) refl) (else-fact _ h _ _ refl refl refl refl refl) (λ l. else-fact _ h _ _ refl refl refl refl refl)
 
 -- of every step
 pub step-fact : (s : Station) (b : Words) (o : Offer) (h : Heard) → Fact s h (rowOf (s .role) (s .place) h) (done s b o (rowOf (s .role) (s .place) h))

@@ -13,6 +13,7 @@ use Rattle.mode_a.specs.declared.Station.{Station}
 use Rattle.mode_a.specs.declared.Reply.{Reply}
 use Rattle.mode_a.specs.Station.{ααα}
 use Rattle.mode_a.specs.Heard.{Heard, heardOf, isWords}
+use Rattle.mode_a.specs.Step.{standsAt}
 use Rattle.runs.specs.Places.{changed, counting}
 use Rattle.runs.specs.Runs.{Event, Run, start, _▷_, said, next, after, confirms, accepting}
 
@@ -22,13 +23,13 @@ stays p h p′ = counting p && (not (confirms p h) && (not (accepting p h) && no
 
 -- The time-out itself is no change of place: what counts is where the same burst and offer lead from a count of 0.
 abbrev pub uncounted : Station → Station
-uncounted s = record { role = s .role; place = s .place; count = 0; case = s .case; plus = s .plus }
+uncounted s = standsAt s (s .place) 0 (s .case) (s .plus)
 
 abbrev pub leadsTo : Station → Event → Place
 leadsTo s e = next (uncounted s) e .place
 
 abbrev pub repetition : Station → Event → Bool
-repetition s e = stays (s .place) (heardOf (e .burst)) (leadsTo s e)
+repetition s e = stays (s .place) (heardOf (s .own) (e .burst)) (leadsTo s e)
 
 -- in a row: one more, or none; a refusal is no step and is passed over
 abbrev pub goesOn : Answer Reply → Bool → ℕ → ℕ

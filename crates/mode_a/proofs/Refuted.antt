@@ -9,13 +9,19 @@
 --     no-block-for-rq            Sending that sends the block again where RQ RQ RQ is due
 --     no-own-number-at-turning   Turning that asks for the number that its last block had
 --     no-order-3-4               a bad offer told before a bad station
---     no-order-4-8               a bad station told before a bad call
 --     no-offer-unjudged          a text offer that is judged only where it would be taken
+--     no-order-4-8               a bad station told before a bad call
+--     no-call-unjudged           a call that is judged only where it would be placed
+--     no-call-taken-elsewhere    a call reported as taken where a block is
+--     no-call-that-prints        a call that is placed, and prints
+--     no-lost-caller             Calling that goes to Lost where its 128 call bursts are sent
 -- Wrong fresh stations and first bursts, each by one field or word that is not as 01 has it, whatever the others are.
 --     no-fresh-master-asking     a fresh master at Asking
 --     no-fresh-master-slave      a fresh master that is a slave
 --     no-fresh-slave-awaiting-2  a fresh slave that awaits 2
 --     no-fresh-slave-master      a fresh slave that is a master
+--     no-standing-by-with-w      a station at Stand-by with W, which is not in table 3a, in its identity
+--     no-standing-by-that-waits  one that has to wait before it may call
 --     no-first-burst-cs2         a first burst that asks for block 2
 --     no-first-burst-thrice      CS1 three times: "a single signal is followed by two zero words"
 -- Assumes nothing.
@@ -30,15 +36,18 @@ use Rattle.mode_a.specs.declared.Role.the-variants.{Master, Slave}
 use Rattle.mode_a.specs.declared.Number.the-variants.{One, Two}
 use Rattle.mode_a.specs.declared.Words.{Words}
 use Rattle.mode_a.specs.declared.Place.{Place}
-use Rattle.mode_a.specs.declared.Place.the-variants.{Sending, Turning, Receiving, Asking, Lost}
+use Rattle.mode_a.specs.declared.Place.the-variants.{Sending, Turning, Opening, Ending, Receiving, Asking, StandBy, Lost, Calling}
 use Rattle.mode_a.specs.declared.Offer.{Offer}
 use Rattle.mode_a.specs.declared.Station.{Station}
 use Rattle.mode_a.specs.declared.Reply.{Reply}
 use Rattle.mode_a.specs.declared.Stepped.{Stepped}
 use Rattle.mode_a.specs.declared.Peer.the-variants.{Nobody}
-use Rattle.mode_a.specs.Calls.{isIdentity}
-use Rattle.mode_a.specs.Station.{words, single, silence, RQ×3, asksFor, noIdentity, resting, freshMaster, freshSlave, firstBurst}
-use Rattle.mode_a.specs.Heard.{firstOf, mayHold, isBlock, isWords, heardOf}
+use Rattle.mode_a.specs.declared.Mark.{Mark}
+use Rattle.mode_a.specs.declared.Identity.{Identity}
+use Rattle.mode_a.specs.declared.Stood.{Stood}
+use Rattle.mode_a.specs.Calls.{isIdentity, isCallable}
+use Rattle.mode_a.specs.Station.{standing, StandsBy, words, single, silence, RQ×3, asksFor, noIdentity, resting, freshMaster, freshSlave, firstBurst}
+use Rattle.mode_a.specs.Heard.{firstOf, mayHold, isBlock, isWords, callOf, heardOf}
 use Rattle.mode_a.specs.Over.{listened}
 use Rattle.mode_a.specs.Step.{trafficIn, done, sound, stepping, saidStepped, Steps}
 
@@ -125,14 +134,85 @@ pub no-order-3-4 : (s : Station) → Steps (slaveAt Lost 32) silence (Offer.Text
 unfolding stepping sound firstNot
 no-order-3-4 s p = let z : _≡_ {A = ℕ} 3 4 = ap numberIn (p .0) in omega arith
 
-pub no-order-4-8 : (s : Station) → Steps (slaveAt Lost 32) silence (Offer.Call (noIdentity .four)) (Stepped.BadStation s) → ⊥
-unfolding stepping sound isIdentity firstNot
-no-order-4-8 s p = let z : _≡_ {A = ℕ} 4 8 = ap numberIn (p .0) in omega arith
-
--- at Stand-by, where no offer is taken but a call
+-- at Stand-by, where no offer is taken
 pub no-offer-unjudged : (r : Reply) → Steps (slaveAt (resting 0) 0) silence (Offer.Text (words 116 102 71)) (Stepped.Done r) → ⊥
 unfolding stepping sound mayHold trafficOf meaningOf firstNot
 no-offer-unjudged r p = let z : _≡_ {A = ℕ} 0 3 = ap numberIn (p .0) in omega arith
+
+-- V X Q Z, the same with N for V, and with W for Z
+abbrev vxqz : Identity
+vxqz = record { 0 = 60; 1 = 58; 2 = 46; 3 = 99 }
+
+abbrev nxqz : Identity
+nxqz = record { 0 = 89; 1 = 58; 2 = 46; 3 = 99 }
+
+abbrev vxqw : Identity
+vxqw = record { 0 = 60; 1 = 58; 2 = 46; 3 = 39 }
+
+pub no-order-4-8 : (s : Station) → Steps (slaveAt Lost 32) silence (Offer.Call nxqz) (Stepped.BadStation s) → ⊥
+unfolding stepping isIdentity firstNot
+no-order-4-8 s p = let z : _≡_ {A = ℕ} 4 8 = ap numberIn (p .0) in omega arith
+
+-- at Lost, where no call is placed
+pub no-call-unjudged : (r : Reply) → Steps (slaveAt Lost 0) silence (Offer.Call vxqw) (Stepped.Done r) → ⊥
+unfolding stepping isIdentity firstNot
+no-call-unjudged r p = let z : _≡_ {A = ℕ} 0 8 = ap numberIn (p .0) in omega arith
+
+-- Sending that hears the other number's control signal: βββ goes out, and the call stays with the operator
+pub no-call-taken-elsewhere : (r : Reply) → r .taken ≡ true → Steps (slaveAt (Sending (record { number = One; block = tea })) 0) (single cs2) (Offer.Call vxqz) (Stepped.Done r) → ⊥
+unfolding stepping sound heardOf callOf isIdentity isCallable firstOf mayHold trafficOf meaningOf isBlock isWords firstNot done
+no-call-taken-elsewhere r e p = apart (sym e ∙ ap takenIn (p .0))
+
+pub no-call-that-prints : (r : Reply) → r .printed ≡ words 60 0 0 → Steps (slaveAt (resting 0) 0) silence (Offer.Call vxqz) (Stepped.Done r) → ⊥
+unfolding stepping sound heardOf callOf isIdentity isCallable firstOf mayHold trafficOf meaningOf isBlock isWords firstNot done
+no-call-that-prints r e p =
+    let z : _≡_ {A = ℕ} 60 0 = printed-is (slaveAt (resting 0) 0) silence (Offer.Call vxqz) r p (words 60 0 0) e in omega arith
+
+abbrev placeNoIn : Place → ℕ
+placeNoIn (Sending h) = 0
+placeNoIn (Turning n) = 0
+placeNoIn Opening = 0
+placeNoIn (Ending e) = 0
+placeNoIn (Receiving n) = 0
+placeNoIn Asking = 0
+placeNoIn (StandBy w) = 6
+placeNoIn Lost = 7
+placeNoIn (Calling c) = 8
+
+abbrev placeIn : Answer Reply → Place
+placeIn (answered r) = r .station .place
+placeIn (refused n v) = Opening
+
+pub no-lost-caller : (r : Reply) → r .station .place ≡ Lost → Steps (slaveAt (Calling (record { to = vxqz; sent = 128; last = Mark.None })) 0) silence Offer.Nothing (Stepped.Done r) → ⊥
+unfolding stepping sound heardOf callOf isIdentity isCallable firstOf mayHold trafficOf meaningOf isBlock isWords firstNot done
+no-lost-caller r e p = let z : _≡_ {A = ℕ} 7 6 = ap placeNoIn (sym e ∙ ap placeIn (p .0)) in omega arith
+
+abbrev stoodIn : Answer Station → ℕ
+stoodIn (answered s) = 0
+stoodIn (refused n v) = n
+
+pub no-standing-by-with-w : (s : Station) → StandsBy vxqw (Stood.By s) → ⊥
+unfolding standing isIdentity firstNot
+no-standing-by-with-w s p = let z : _≡_ {A = ℕ} 0 8 = ap stoodIn p in omega arith
+
+abbrev waitIn : Place → ℕ
+waitIn (Sending h) = 0
+waitIn (Turning n) = 0
+waitIn Opening = 0
+waitIn (Ending e) = 0
+waitIn (Receiving n) = 0
+waitIn Asking = 0
+waitIn (StandBy w) = w .wait
+waitIn Lost = 0
+waitIn (Calling c) = 0
+
+abbrev stationIn : Answer Station → Station → Station
+stationIn (answered s) t = s
+stationIn (refused n v) t = t
+
+pub no-standing-by-that-waits : (s : Station) → s .place ≡ resting 128 → StandsBy vxqz (Stood.By s) → ⊥
+unfolding standing isIdentity firstNot
+no-standing-by-that-waits s e p = let z : _≡_ {A = ℕ} 128 0 = ap waitIn (sym e ∙ ap (λ (a : Answer Station). stationIn a s .place) p) in omega arith
 
 pub no-fresh-master-asking : (s : Station) → s .place ≡ Asking → s ≡ freshMaster → ⊥
 no-fresh-master-asking s e p = apart cc

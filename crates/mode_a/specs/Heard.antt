@@ -1,6 +1,6 @@
 -- 01, The station: what the rows ask of a burst: its first word, and what its three words are together. Any byte may be heard.
 --
--- Whether a word is a control signal or traffic is told by the place that hears it (R-022): Sending, Opening and Ending read
+-- Whether a word is a control signal or traffic is told by the place that hears it (R-022): Sending, Opening, Ending and Calling read
 -- the first word only and ask what it is as a control signal, whatever follows it; Turning asks for CS3 or RQ first, or three
 -- RQ; Receiving for a block or ααα; Asking for βαβ. Stand-by asks whether the burst is one of the station's own call blocks (02, T-02).
 -- Assumes nothing.
@@ -40,7 +40,7 @@ isBlock b = mayHold (b .0) && (mayHold (b .1) && mayHold (b .2))
 unfoldable pub isWords : Words → Words → Bool
 isWords b w = eqb (b .0) (w .0) && (eqb (b .1) (w .1) && eqb (b .2) (w .2))
 
--- which of the own call blocks a burst is; a station with a signal outside table 3a in its identity, or with none, hears no call
+-- which of the own call blocks a burst is; a station with a signal outside table 3a in its identity, or with none, hears no call  R-179, R-180
 unfoldable pub callOf : Identity → Words → Mark
 callOf i b =
     if isCallable i then (if isWords b (callBlock1 i) then Mark.One else if isWords b (callBlock2 i) then Mark.Two else Mark.None)

@@ -3,7 +3,8 @@
 -- "The over is heard when ? follows + in figures case with only β between, within a block or across blocks; any other signal
 -- between cancels it, and so does the step from Asking to Opening or from Turning to Receiving. Only accepted blocks count here.
 -- The case of a direction starts at letters and lasts through turns." The cancelling steps are `cancelledTo` (R-089), what counts
--- is `accepts` alone (R-090), and the case stays in `movedTo` and `cancelledTo` (R-091), all in Step.antt. A shift is such another
+-- is `accepts` alone (R-090), and the case stays in `movedTo` and `cancelledTo` (R-091), all in Step.antt;
+-- a call that is placed or answered begins a direction, in letters case with no + (`begun`, 02's T-02). A shift is such another
 -- signal, also one to figures. ? is the figure of B, + of Z; in letters case they are letters and no part of an over.
 -- Assumes nothing.
 use mathlib.Core.Bool.{Bool, true, false, _||_}

@@ -1,4 +1,4 @@
--- 01, The station: "The step has one row for each place and one column for each kind of burst."  R-047 to R-085
+-- 01, The station: "The step has one row for each place and one column for each kind of burst."  R-047 to R-085; and 02, T-02, for Stand-by and Calling.
 --
 -- A row a place, in 01's order, with 01's words and 001's sections. `Repeats`: it stays and sends these; `Goes`: it goes to the
 -- place and sends these; `Takes`: it takes the offer under the number; `Receives` and `Opens`: it goes to Receiving or Opening,
@@ -107,10 +107,11 @@ receiving n h =
 abbrev pub asking : Heard → Doing
 asking h = if h .turned then Opens else Repeats (single cs3)
 
--- Stand-by "hears and places calls" (02, T-02)
---     both       "The slave answers CS1 after both blocks in succession."               3.5.5
+-- Stand-by "hears and places calls" (02, T-02)                                                            R-084
+--     both       "The slave answers CS1 after both blocks in succession."               3.5.5             R-179, R-180
 --                in either order; the same block twice is one
---     all else   a call that is offered is placed, or it is silent                      3.5.4
+--     all else   a call that is offered is placed where no step is left to wait;       3.5.4             R-181, R-182, R-188
+--                else it is silent
 abbrev pub bothHeard : Mark → Mark → Bool
 bothHeard Mark.None m = false
 bothHeard Mark.One Mark.None = false
@@ -124,10 +125,10 @@ abbrev pub standBy : Waiting → Heard → Doing
 standBy w h =
     if bothHeard (w .heard) (h .call) then Answers else Listens (record { wait = w .wait; heard = h .call })
 
--- Calling (reads the first word) (02, T-02)
---     the same   "goes on to traffic on two successive identical CS1 or CS2"            3.5.6
---     CS3        "on CS3 waits 128 cycles in stand-by"                                  3.5.7
---     all else   "sends call blocks 1 and 2 in turn for at most 128 cycles"             3.5.4
+-- Calling (reads the first word) (02, T-02)                                                               R-183
+--     the same   "goes on to traffic on two successive identical CS1 or CS2"            3.5.6             R-186
+--     CS3        "on CS3 waits 128 cycles in stand-by"                                  3.5.7             R-187
+--     all else   "sends call blocks 1 and 2 in turn for at most 128 cycles"             3.5.4             R-184, R-185, R-195
 abbrev pub callsOn : Called → Mark → Doing
 callsOn c m =
     if leb 128 (c .sent) then Rests 128 silence

@@ -1,7 +1,7 @@
 -- 01, The station: bursts, numbers, fresh stations; 02, T-02: a station at Stand-by.  R-041, R-042, R-043, R-092, R-093, R-094, R-095
 --
 -- "A station is master or slave, and is at one of these places; the places that send or receive blocks carry their own inner
--- state." "An offer is text (three words), over, end or nothing."  R-044, R-045, R-046: the types Role, Place and Offer of
+-- state." "An offer is text (three words), over, end or nothing", or a call (02, T-02).  R-044, R-045, R-046: the types Role, Place and Offer of
 -- src/lib.rt.
 -- Assumes nothing.
 use mathlib.Core.Path.{_≡_}
@@ -21,7 +21,6 @@ use Rattle.mode_a.specs.declared.Mark.{Mark}
 use Rattle.mode_a.specs.declared.Identity.{Identity}
 use Rattle.mode_a.specs.declared.Own.{Own}
 use Rattle.mode_a.specs.declared.Peer.the-variants.{Nobody}
-use Rattle.mode_a.specs.declared.Waiting.{Waiting}
 use Rattle.mode_a.specs.declared.Place.{Place}
 use Rattle.mode_a.specs.declared.Place.the-variants.{Opening, Receiving, StandBy}
 use Rattle.mode_a.specs.declared.Station.{Station}
@@ -76,7 +75,7 @@ marks Mark.None n = false
 marks Mark.One n = same One n
 marks Mark.Two n = same Two n
 
--- a station without an identity
+-- a station without an identity  R-180
 abbrev pub noIdentity : Own
 noIdentity = record { four = record { 0 = 0; 1 = 0; 2 = 0; 3 = 0 } }
 
@@ -93,7 +92,7 @@ freshSlave =
 abbrev pub firstBurst : Words
 firstBurst = asksFor One
 
--- 02, T-02: a station at Stand-by, and the place: nothing left to wait, and none of its own call blocks heard
+-- 02, T-02: a station at Stand-by with so many steps to wait and none of its own call blocks heard; one that nobody has called yet  R-193
 abbrev pub resting : ℕ → Place
 resting n = StandBy (record { wait = n; heard = Mark.None })
 
@@ -101,7 +100,7 @@ abbrev pub freshAt : Identity → Station
 freshAt i =
     record { role = Slave; place = resting 0; count = 0; case = Letters; plus = false; own = record { four = i }; other = Nobody }
 
--- "8, an identity signal outside table 3a": the index of the first beside it
+-- "8, an identity signal outside table 3a": the index of the first beside it  R-193
 unfoldable pub standing : Identity → Answer Station
 standing i =
     if ltb (firstNot isIdentity (signalsOf i)) 4 then refused 8 (firstNot isIdentity (signalsOf i)) else answered (freshAt i)

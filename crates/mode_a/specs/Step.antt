@@ -18,7 +18,6 @@ use Rattle.mode_a.specs.declared.Number.{Number}
 use Rattle.mode_a.specs.declared.Number.the-variants.{One}
 use Rattle.mode_a.specs.declared.Mark.{Mark}
 use Rattle.mode_a.specs.declared.Identity.{Identity}
-use Rattle.mode_a.specs.declared.Peer.{Peer}
 use Rattle.mode_a.specs.declared.Peer.the-variants.{Nobody, Four}
 use Rattle.mode_a.specs.declared.Waiting.{Waiting}
 use Rattle.mode_a.specs.declared.Words.{Words}
@@ -37,11 +36,12 @@ use Rattle.mode_a.specs.declared.Listening.{Listening}
 use Rattle.mode_a.specs.Over.{listenedAll, query, cross}
 use Rattle.mode_a.specs.Rows.{rowOf, requests}
 
--- a station at another place, with count 0: "Then, and after every other step, the count is 0."  R-099
+-- the station at a place, with this count, case and +; its role, its identity and who is at the other end stay  R-190
 abbrev pub standsAt : Station → Place → ℕ → Case → Bool → Station
 standsAt s p k c t =
     record { role = s .role; place = p; count = k; case = c; plus = t; own = s .own; other = s .other }
 
+-- at another place, with count 0: "Then, and after every other step, the count is 0."  R-099
 abbrev pub movedTo : Station → Place → Station
 movedTo s p = standsAt s p 0 (s .case) (s .plus)
 
@@ -54,7 +54,8 @@ abbrev pub sends : Station → Words → Reply
 sends s w = record { station = s; sent = w; printed = silence; taken = false }
 
 -- "take the offer (nothing counts as taken too) .. Text gives that block, nothing gives βββ, over gives figures + ?, end gives
--- ααα and place Ending."  R-052, R-053, R-054, R-055, R-056, R-057. A call is not taken here, and gives βββ as nothing does.
+-- ααα and place Ending."  R-052, R-053, R-054, R-055, R-056, R-057. A call is not taken here, and
+-- gives βββ as nothing does.  R-191
 abbrev pub holds : Station → Number → Words → Bool → Reply
 holds s n w t =
     record { station = movedTo s (Sending (record { number = n; block = w })); sent = w; printed = silence; taken = t }
@@ -107,16 +108,16 @@ repeats s w =
     if leb 31 (s .count) then sends (movedTo s Lost) silence
     else sends (standsAt s (s .place) (s .count + 1) (s .case) (s .plus)) w
 
--- 02, T-02: a station at Stand-by with so many steps to wait and nobody at the other end
+-- 02, T-02: a station that goes to Stand-by, with so many steps to wait and nobody at the other end  R-190
 abbrev pub rested : Station → ℕ → Station
 rested s n =
     record { role = s .role; place = resting n; count = 0; case = s .case; plus = s .plus; own = s .own; other = Nobody }
 
--- a station that places or answers a call: in letters case, with no + heard and nobody at the other end
+-- a station that places or answers a call: in letters case, with no + heard and nobody at the other end  R-189
 abbrev pub begun : Station → Role → Place → Station
 begun s r p = record { role = r; place = p; count = 0; case = Letters; plus = false; own = s .own; other = Nobody }
 
--- "the master sends call blocks 1 and 2 in turn": the first burst goes out in the step that takes the offer
+-- "the master sends call blocks 1 and 2 in turn": the first burst goes out in the step that takes the offer  R-181
 abbrev pub called : Station → Identity → Reply
 called s i =
     record {
@@ -126,7 +127,7 @@ called s i =
       taken = true;
     }
 
--- "waits 128 cycles in stand-by": one step less is left to wait
+-- "waits 128 cycles in stand-by": one step less is left to wait  R-182, R-188, R-195
 abbrev pub waitsOn : Station → Waiting → Reply
 waitsOn s w = sends (movedTo s (StandBy (record { wait = w .wait - 1; heard = w .heard }))) silence
 
@@ -137,7 +138,7 @@ listens s w Offer.End = waitsOn s w
 listens s w Offer.Nothing = waitsOn s w
 listens s w (Offer.Call i) = if eqb (w .wait) 0 then called s i else waitsOn s w
 
--- "goes on to traffic": the identity called is at the other end
+-- "goes on to traffic": the identity called is at the other end  R-186
 abbrev pub reached : Station → Identity → Station
 reached s i =
     record { role = s .role; place = s .place; count = s .count; case = s .case; plus = s .plus; own = s .own; other = Four i }
@@ -155,7 +156,7 @@ done s b o (Listens w) = listens s w o
 done s b o (Reaches i n) = takes (reached s i) n o
 
 -- 01, Numbers returned, for the step. "mode A step 4, 3"  R-134, R-135; 8 is "checked before all others at the call" (02, T-02)
---     8   "an identity signal outside table 3a": of the call offered                                          index of the first
+--     8   "an identity signal outside table 3a", of the call that is offered                                 index of the first      R-192
 --     4   "station with count over 31, an Ending total not 1 to 4, or a held word neither traffic nor β"      "0"                     R-129
 --     3   "a word that may not stand there: text offer (traffic, β)"                                         "index of the first"    R-128
 -- All are judged at every place.

@@ -257,7 +257,7 @@ pub enum Doing {
     Accepts(Number),
     // go to Stand-by with so many steps to wait, and send these
     Rests(u8, Words),
-    // at Stand-by: answer the call; place the call that is offered where none is left to wait, or stay, this burst being kept
+    // at Stand-by: answer the call; place the call that is offered where no step is left to wait, or stay, this burst being kept
     Answers,
     Listens(Waiting),
     // the identity called has answered: take the offer under the number

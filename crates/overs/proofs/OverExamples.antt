@@ -1,26 +1,31 @@
--- The over in single runs of a fresh slave: what is easily got wrong. Each over is told by its splitting; where there is none, by
--- the place that the station computes to, through `over-heard-exactly`.
+-- The over in single runs of a fresh slave, and of a station at Stand-by that is called: what is easily got wrong. Each over is told by
+-- its splitting; where there is none, by the place that the station computes to, through `over-heard-exactly`.
 -- Assumes nothing.
 use mathlib.Core.Path.{_≡_, refl, sym, _∙_}
 use mathlib.Core.List.{[], _∷_}
+use mathlib.Core.Logic.{inl}
 use Prim.Native.Nat.{ℕ}
 use native.Mathlib.Omega.{arith}
-use Rattle.signals.specs.Meaning.{trafficOf, meaningOf, letters, figures, alpha, beta, rq, cs1, cs3}
+use Rattle.signals.specs.declared.Case.the-variants.{Letters, Figures}
+use Rattle.signals.specs.Meaning.{trafficOf, meaningOf, wordNo, letters, figures, alpha, beta, rq, cs1, cs3}
 use Rattle.signals.specs.Numbers.{firstNot}
 use Rattle.mode_a.specs.declared.Role.the-variants.{Slave}
 use Rattle.mode_a.specs.declared.Number.{Number}
 use Rattle.mode_a.specs.declared.Number.the-variants.{One, Two}
+use Rattle.mode_a.specs.declared.Words.{Words}
+use Rattle.mode_a.specs.declared.Identity.{Identity}
 use Rattle.mode_a.specs.declared.Place.{Place}
 use Rattle.mode_a.specs.declared.Place.the-variants.{Receiving, Asking}
 use Rattle.mode_a.specs.declared.Offer.{Offer}
-use Rattle.mode_a.specs.Station.{words}
-use Rattle.mode_a.specs.Heard.{firstOf, mayHold, isBlock, isWords, heardOf}
+use Rattle.mode_a.specs.Calls.{isIdentity, isCallable, callBlock1, callBlock2, nextBlock}
+use Rattle.mode_a.specs.Station.{words, silence, freshSlave, freshAt}
+use Rattle.mode_a.specs.Heard.{firstOf, mayHold, isBlock, isWords, callOf, heardOf}
 use Rattle.mode_a.specs.Over.{query, cross, listened}
 use Rattle.mode_a.specs.Step.{trafficIn, done, sound, stepping}
-use Rattle.runs.specs.Runs.{Event, Run, start, _▷_}
+use Rattle.runs.specs.Runs.{Event, Run, start, _▷_, after}
 use Rattle.runs.proofs.PlaceLaws.{places-apart}
-use Rattle.overs.specs.Overs.{accepted, earlier, since, caseAfter, OverIn}
-use Rattle.overs.proofs.OverLaws.{over-heard-exactly}
+use Rattle.overs.specs.Overs.{accepted, earlier, since, caseAfter, HeardOver, OverIn}
+use Rattle.overs.proofs.OverLaws.{over-heard-exactly, standing-asks-exactly}
 
 -- a burst heard and nothing offered; a block heard and an over offered
 abbrev hears : ℕ → ℕ → ℕ → Event
@@ -63,3 +68,51 @@ turn-between h = elsewhere _ One refl (over-heard-exactly Slave turned (hears qu
 figures-after-turn : OverIn Slave turned (hears cross query beta)
 unfolding accepted earlier since caseAfter stepping sound done firstNot isBlock mayHold trafficOf meaningOf heardOf firstOf isWords listened trafficIn
 figures-after-turn = record { beginning = []; betas = 0; rest = beta ∷ []; split = refl; in-block = omega arith; figures-at-cross = refl; figures-at-query = refl }
+
+-- V X Q K
+abbrev somebody : Identity
+somebody = record { 0 = wordNo 22; 1 = wordNo 24; 2 = wordNo 17; 3 = wordNo 11 }
+
+abbrev calls : Event
+calls = record { burst = silence; offer = Offer.Call somebody }
+
+-- figures case, and ααα, which leads to Stand-by; then a call is placed, and completed by CS1 twice; then a turn
+abbrev ended : Run
+ended = start ▷ hears figures cross beta ▷ hears alpha alpha alpha
+
+abbrev called : Run
+called = ended ▷ calls ▷ hears cs1 0 0 ▷ hears cs1 0 0
+
+abbrev turnedAfterCall : Run
+turnedAfterCall = called ▷ hears cs3 0 0 ▷ hears rq rq rq
+
+-- Stand-by keeps the case; a call sets it to letters, and then nothing is accepted yet
+pub letters-by-the-call : (after freshSlave ended .case ≡ Figures) × (after freshSlave (ended ▷ calls) .case ≡ Letters) × (after freshSlave called .case ≡ Letters) × (accepted freshSlave called ≡ [])
+unfolding accepted earlier since caseAfter stepping sound done firstNot isBlock mayHold trafficOf meaningOf heardOf firstOf isWords listened trafficIn callOf isCallable isIdentity nextBlock
+letters-by-the-call = (refl, refl, refl, refl)
+
+-- so + and ? are letters in the next circuit, where after a turn (`figures-after-turn`) they would be an over
+call-between : OverIn Slave turnedAfterCall (hears cross query beta) → ⊥
+unfolding accepted earlier since caseAfter stepping sound done firstNot isBlock mayHold trafficOf meaningOf heardOf firstOf isWords listened trafficIn callOf isCallable isIdentity nextBlock
+call-between h = elsewhere _ One refl (over-heard-exactly Slave turnedAfterCall (hears cross query beta) refl refl .1 h)
+
+over-after-call : OverIn Slave turnedAfterCall (hears figures cross query)
+unfolding accepted earlier since caseAfter stepping sound done firstNot isBlock mayHold trafficOf meaningOf heardOf firstOf isWords listened trafficIn callOf isCallable isIdentity nextBlock
+over-after-call = record { beginning = figures ∷ []; betas = 0; rest = []; split = refl; in-block = omega arith; figures-at-cross = refl; figures-at-query = refl }
+
+-- the same where the call is answered: a station that hears its own call blocks, accepts figures and a +, is left by ααα, and is called
+-- again
+abbrev hearsAll : Words → Event
+hearsAll b = record { burst = b; offer = Offer.Nothing }
+
+abbrev answeredTwice : Run
+answeredTwice =
+    start ▷ hearsAll (callBlock1 somebody) ▷ hearsAll (callBlock2 somebody) ▷ hears figures cross beta ▷ hears alpha alpha alpha ▷ hearsAll (callBlock2 somebody) ▷ hearsAll (callBlock1 somebody)
+
+answer-between : HeardOver Letters (earlier (freshAt somebody) answeredTwice) (since (freshAt somebody) answeredTwice) (cross ∷ query ∷ beta ∷ []) → ⊥
+unfolding accepted earlier since caseAfter stepping sound done firstNot isBlock mayHold trafficOf meaningOf heardOf firstOf isWords listened trafficIn callOf isCallable isIdentity nextBlock
+answer-between h = elsewhere _ Two refl (standing-asks-exactly somebody answeredTwice (hears cross query beta) refl .1 (inl h))
+
+over-after-answer : HeardOver Letters (earlier (freshAt somebody) answeredTwice) (since (freshAt somebody) answeredTwice) (figures ∷ cross ∷ query ∷ [])
+unfolding accepted earlier since caseAfter stepping sound done firstNot isBlock mayHold trafficOf meaningOf heardOf firstOf isWords listened trafficIn callOf isCallable isIdentity nextBlock
+over-after-answer = record { beginning = figures ∷ []; betas = 0; rest = []; split = refl; in-block = omega arith; figures-at-cross = refl; figures-at-query = refl }

@@ -1,15 +1,17 @@
--- What a step does to the case and the + that a station keeps: it cancels, or it accepts a block, or it leaves both. Told with
--- the place after it, where a block is accepted. Assumes nothing.
+-- What a step does to the case and the + that a station keeps: it begins a call, or it cancels, or it accepts a block, or it leaves
+-- both. Told with the place after it, where a block is accepted. Assumes nothing.
 use mathlib.Core.Path.{_≡_, refl}
 use mathlib.Core.Bool.{Bool, true, false, _&&_, _||_, and-false, false≢true}
 use Prim.Native.Nat.{ℕ}
 use native.Mathlib.Omega.{arith}
+use borrow.Author.Tests.{eqb-true}
 use Rattle.signals.specs.declared.Case.{Case}
+use Rattle.signals.specs.declared.Case.the-variants.{Letters}
 use Rattle.signals.specs.Numbers.{Answer, answered, refused}
 use Rattle.mode_a.specs.declared.Number.{Number}
 use Rattle.mode_a.specs.declared.Words.{Words}
 use Rattle.mode_a.specs.declared.Place.{Place}
-use Rattle.mode_a.specs.declared.Place.the-variants.{Sending, Turning, Opening, Ending, Receiving, Asking, StandBy, Lost}
+use Rattle.mode_a.specs.declared.Place.the-variants.{Sending, Turning, Opening, Ending, Receiving, Asking, StandBy, Lost, Calling}
 use Rattle.mode_a.specs.declared.Station.{Station}
 use Rattle.mode_a.specs.declared.Listening.{Listening}
 use Rattle.mode_a.specs.declared.Doing.{Doing}
@@ -17,13 +19,13 @@ use Rattle.mode_a.specs.declared.Reply.{Reply}
 use Rattle.mode_a.specs.Heard.{firstOf, heardOf}
 use Rattle.mode_a.specs.Over.{listenedAll}
 use Rattle.mode_a.specs.Rows.{rowOf}
-use Rattle.mode_a.specs.Step.{takes, repeats, isOver, acceptsBy, done, offered, stationAfter}
-use Rattle.runs.specs.Places.{isTurning, isOpening, isReceiving, isAsking}
+use Rattle.mode_a.specs.Step.{movedTo, takes, repeats, isOver, acceptsBy, reached, done, stationAfter}
+use Rattle.runs.specs.Places.{placeNo, isTurning, isOpening, isReceiving, isAsking, isStandBy, isCalling}
 use Rattle.runs.specs.Runs.{Event, said, next, isAnswered, accepting}
 use Rattle.runs.proofs.PlaceLaws.{one-number}
-use Rattle.runs.proofs.RowLaws.{by-sending, by-turning, by-opening, by-ending, by-receiving, by-asking}
-use Rattle.runs.proofs.StepLaws.{answers, placed, by-repeat, by-take}
-use Rattle.overs.specs.Overs.{isAccepted, cancelling, cancels}
+use Rattle.runs.proofs.RowLaws.{by-sending, by-turning, by-opening, by-ending, by-receiving, by-asking, by-standing, by-calling}
+use Rattle.runs.proofs.StepLaws.{answers, placed, by-repeat, by-take, by-listen}
+use Rattle.overs.specs.Overs.{isAccepted, cancelling, cancels, beginsAt, begins}
 
 -- after a block was accepted: what was heard is kept, and the place is Asking exactly if the over was heard, or offered
 pub record Took (l : Listening) (offered : Bool) (after : Station) : Type 0 where
@@ -32,15 +34,16 @@ pub record Took (l : Listening) (offered : Bool) (after : Station) : Type 0 wher
   pub to-asking : (offered || l .over) ≡ true → after .place ≡ Asking
   pub from-asking : after .place ≡ Asking → (offered || l .over) ≡ true
 
--- by whether the step cancels, and whether it accepts
-pub data Effect (s after : Station) (e : Event) : Bool → Bool → Type 0 where
-  cancelled : after .case ≡ s .case → after .plus ≡ false → Effect s after e true false
-  took : Took (listenedAll (s .case) (s .plus) (e .burst)) (isOver (e .offer)) after → Effect s after e false true
-  left : after .case ≡ s .case → after .plus ≡ s .plus → Effect s after e false false
+-- by whether the step begins a call, whether it cancels, and whether it accepts
+pub data Effect (s after : Station) (e : Event) : Bool → Bool → Bool → Type 0 where
+  began : after .case ≡ Letters → after .plus ≡ false → Effect s after e true false false
+  cancelled : after .case ≡ s .case → after .plus ≡ false → Effect s after e false true false
+  took : Took (listenedAll (s .case) (s .plus) (e .burst)) (isOver (e .offer)) after → Effect s after e false false true
+  left : after .case ≡ s .case → after .plus ≡ s .plus → Effect s after e false false false
 
 EffectOf : Station → Event → Answer Reply → Type 0
 EffectOf s e a =
-    Effect s (stationAfter s a) e (cancelling (s .place) (stationAfter s a .place)) (isAnswered a && accepting (s .place) (heardOf (e .burst)))
+    Effect s (stationAfter s a) e (beginsAt (s .place) (stationAfter s a .place)) (cancelling (s .place) (stationAfter s a .place)) (isAnswered a && accepting (s .place) (heardOf (s .own) (e .burst)))
 
 -- an accepted block
 took-by : (s : Station) (n : Number) (b : Words) (t : Bool) (l : Listening) → Took l t (acceptsBy s n b t l .station)
@@ -56,49 +59,67 @@ took-by s n b false l = go (l .case) (l .plus) (l .over)
       from-asking = λ h. let z : _≡_ {A = ℕ} 0 1 = cc in absurd (omega arith);
     }
 
--- to stay at a place cancels nothing, nor does to go to one that is neither Opening nor Receiving
+-- to stay at a place cancels nothing and begins nothing, nor does to go to one that is none of Opening, Receiving and Calling
 staying : (p : Place) → cancelling p p ≡ false
 staying p = rw (one-number p 5 2 refl, one-number p 1 4 refl)
 
 going : (p q : Place) → isOpening q ≡ false → isReceiving q ≡ false → cancelling p q ≡ false
 going p q i j = rw (i, j, and-false (isAsking p), and-false (isTurning p))
 
+begins-staying : (p : Place) → beginsAt p p ≡ false
+begins-staying p = go (isStandBy p) refl
+  where
+    go : (t : Bool) → isStandBy p ≡ t → t && (isCalling p || isReceiving p) ≡ false
+    go true e = rw (eqb-true (placeNo p) 6 e)
+    go false e = refl
+
+begins-going : (p q : Place) → isCalling q ≡ false → isReceiving q ≡ false → beginsAt p q ≡ false
+begins-going p q i j = rw (i, j) (and-false (isStandBy p))
+
 -- the row of each place, at a station
 module _ (s : Station) (e : Event) where
-  -- what neither cancels nor accepts
+  -- what neither begins nor cancels nor accepts
   abbrev Left : Place → Reply → Type 0
-  Left q x = Effect (placed s q) (x .station) e (cancelling q (x .station .place)) false
+  Left q x = Effect (placed s q) (x .station) e (beginsAt q (x .station .place)) (cancelling q (x .station .place)) false
 
   repeated : (q : Place) (w : Words) → Left q (repeats (placed s q) w)
-  repeated q w = by-repeat (Left q) (placed s q) w (λ t. rw (going q Lost refl refl) (left refl refl)) (λ t. rw (staying q) (left refl refl))
+  repeated q w =
+      by-repeat (Left q) (placed s q) w (λ t. rw (begins-going q Lost refl refl, going q Lost refl refl) (left refl refl)) (λ t. rw (begins-staying q, staying q) (left refl refl))
 
-  taken : (q : Place) (n : Number) → Left q (takes (placed s q) n (e .offer))
-  taken q n =
-      by-take (Left q) (placed s q) n (e .offer) (λ w. rw (going q (Sending (record { number = n; block = w })) refl refl) (left refl refl)) (rw (going q (Ending (record { number = n; total = 1 })) refl refl) (left refl refl))
+  -- an offer taken, by the station itself or by it with another at the other end
+  taken : (q : Place) (s′ : Station) (n : Number) → s′ .case ≡ s .case → s′ .plus ≡ s .plus → Left q (takes s′ n (e .offer))
+  taken q s′ n c p =
+      by-take (Left q) s′ n (e .offer) (λ w t. to (Sending (record { number = n; block = w })) refl refl refl) (to (Ending (record { number = n; total = 1 })) refl refl refl)
+    where
+      to : (x : Place) → isOpening x ≡ false → isReceiving x ≡ false → isCalling x ≡ false → Effect (placed s q) (movedTo s′ x) e (beginsAt q x) (cancelling q x) false
+      to x i j k = rw (begins-going q x k j, going q x i j) (left c p)
 
   abbrev Row : Place → Doing → Type 0
   Row q d = EffectOf (placed s q) e (answered (done (placed s q) (e .burst) (e .offer) d))
 
-  row : (q : Place) → Row q (rowOf (s .role) q (heardOf (e .burst)))
+  row : (q : Place) → Row q (rowOf (s .role) q (heardOf (s .own) (e .burst)))
   unfolding EffectOf done heardOf
   row (Sending h) =
-      by-sending (Row (Sending h)) h (firstOf (e .burst .0)) (λ y. repeated (Sending h) _) (λ y. taken (Sending h) _) (λ y. left refl refl) (λ y. repeated (Sending h) _)
+      by-sending (Row (Sending h)) h (firstOf (e .burst .0)) (λ y. repeated (Sending h) _) (λ y. taken (Sending h) _ _ refl refl) (λ y. left refl refl) (λ y. repeated (Sending h) _)
   row (Turning n) =
-      by-turning (Row (Turning n)) (s .role) n (heardOf (e .burst)) (cancelled refl refl) (repeated (Turning n) _) (repeated (Turning n) _)
-  row Opening = by-opening (Row Opening) (s .role) (firstOf (e .burst .0)) (λ n. taken Opening n) (left refl refl) (repeated Opening _)
+      by-turning (Row (Turning n)) (s .role) n (heardOf (s .own) (e .burst)) (cancelled refl refl) (repeated (Turning n) _) (repeated (Turning n) _)
+  row Opening = by-opening (Row Opening) (s .role) (firstOf (e .burst .0)) (λ n. taken Opening _ n refl refl) (left refl refl) (repeated Opening _)
   row (Ending d) = by-ending (Row (Ending d)) d (firstOf (e .burst .0)) (left refl refl) (λ l. left refl refl)
   row (Receiving n) =
-      by-receiving (Row (Receiving n)) n (heardOf (e .burst)) (λ y. rw y (took (took-by (placed s (Receiving n)) n (e .burst) (isOver (e .offer)) (listenedAll (s .case) (s .plus) (e .burst))))) (λ y. rw y (left refl refl)) (λ y. rw y (repeated (Receiving n) _))
-  row Asking = by-asking (Row Asking) (heardOf (e .burst)) (cancelled refl refl) (repeated Asking _)
-  row StandBy = left refl refl
+      by-receiving (Row (Receiving n)) n (heardOf (s .own) (e .burst)) (λ y. rw y (took (took-by (placed s (Receiving n)) n (e .burst) (isOver (e .offer)) (listenedAll (s .case) (s .plus) (e .burst))))) (λ y. rw y (left refl refl)) (λ y. rw y (repeated (Receiving n) _))
+  row Asking = by-asking (Row Asking) (heardOf (s .own) (e .burst)) (cancelled refl refl) (repeated Asking _)
+  row (StandBy w) =
+      by-standing (Row (StandBy w)) w (heardOf (s .own) (e .burst)) (λ y. began refl refl) (λ y. by-listen (Left (StandBy w)) (placed s (StandBy w)) _ (e .offer) (λ i c z. began refl refl) (left refl refl))
   row Lost = left refl refl
+  row (Calling c) =
+      by-calling (Row (Calling c)) c (firstOf (e .burst .0)) (λ n f m. taken (Calling c) (reached (placed s (Calling c)) (c .to)) n refl refl) (left refl refl) (λ l. left refl refl)
 
 -- a refused step leaves all
 refused-left : (s : Station) (e : Event) (n v : ℕ) → EffectOf s e (refused n v)
 unfolding EffectOf
-refused-left s e n v = rw (staying (s .place)) (left refl refl)
+refused-left s e n v = rw (begins-staying (s .place), staying (s .place)) (left refl refl)
 
-pub effect : (s : Station) (e : Event) → Effect s (next s e) e (cancels s e) (isAccepted s e)
+pub effect : (s : Station) (e : Event) → Effect s (next s e) e (begins s e) (cancels s e) (isAccepted s e)
 unfolding EffectOf
 effect s e = go (said s e) refl
   where

@@ -1,3 +1,3 @@
 -- 01, The station, mode A: "The over is heard when ..", told over a run of one station.
---     Overs   the words accepted since the last cancelling step, and the over as a splitting of that list
+--     Overs   the words accepted since the circuit began and since the last cancelling step, and the over as a splitting of these
 pub mod Overs

@@ -10,6 +10,11 @@
 --     + + ?         is one: the second + is the +
 --     ? ..          may have signals behind it in its block; the over is heard in the block that has the ?
 -- A turn cancels the + and leaves the case. Blocks that the station sends, and bursts that it does not accept, are in no list.
+--
+-- A station at Stand-by "hears and places calls" (02, T-02), and a call begins another circuit, whose direction "starts at letters" too,
+-- with no + heard. So at the step that places or answers a call every list begins anew, and figures case of the circuit before it makes
+-- no over in the next. What is easily got wrong: it is that step, and neither the one before that goes to Stand-by (the case stays) nor
+-- the one after that completes the call.
 -- Assumes nothing.
 use mathlib.Core.Path.{_≡_}
 use mathlib.Core.Bool.{Bool, _&&_, _||_}
@@ -28,7 +33,7 @@ use Rattle.mode_a.specs.declared.Station.{Station}
 use Rattle.mode_a.specs.Station.{listOf, freshMaster, freshSlave}
 use Rattle.mode_a.specs.Heard.{heardOf}
 use Rattle.mode_a.specs.Over.{query, cross}
-use Rattle.runs.specs.Places.{isTurning, isOpening, isReceiving, isAsking}
+use Rattle.runs.specs.Places.{isTurning, isOpening, isReceiving, isAsking, isStandBy, isCalling}
 use Rattle.runs.specs.Runs.{Event, Run, start, _▷_, said, next, after, isAnswered, accepting}
 
 -- "A fresh master is Opening. A fresh slave is Receiving, awaits 1"  R-092, R-093, R-095
@@ -38,7 +43,7 @@ fresh Slave = freshSlave
 
 -- "Only accepted blocks count here": the step is answered, and it accepts  R-090
 abbrev pub isAccepted : Station → Event → Bool
-isAccepted s e = isAnswered (said s e) && accepting (s .place) (heardOf (e .burst))
+isAccepted s e = isAnswered (said s e) && accepting (s .place) (heardOf (s .own) (e .burst))
 
 abbrev pub acceptedIn : Station → Event → List ℕ
 acceptedIn s e = if isAccepted s e then listOf (e .burst) else []
@@ -50,19 +55,33 @@ cancelling p q = isAsking p && isOpening q || isTurning p && isReceiving q
 abbrev pub cancels : Station → Event → Bool
 cancels s e = cancelling (s .place) (next s e .place)
 
--- the words of all blocks that a station accepts in a run, in order; of these, those before the last step that cancels (none
--- where no step does), and those since
+-- a call is placed or answered: the step from Stand-by to Calling or to Receiving, told likewise  02, T-02
+abbrev pub beginsAt : Place → Place → Bool
+beginsAt p q = isStandBy p && (isCalling q || isReceiving q)
+
+abbrev pub begins : Station → Event → Bool
+begins s e = beginsAt (s .place) (next s e .place)
+
+-- the words of all blocks that a station accepts in a run since the circuit began, in order: since the last call that it placed or
+-- answered, and all where there is none; of these, those before the last step that cancels (none where no step does), and those since
 unfoldable pub accepted : Station → Run → List ℕ
 accepted s start = []
-accepted s (run ▷ e) = accepted s run ++ acceptedIn (after s run) e
+accepted s (run ▷ e) = if begins (after s run) e then [] else accepted s run ++ acceptedIn (after s run) e
 
 unfoldable pub earlier : Station → Run → List ℕ
 earlier s start = []
-earlier s (run ▷ e) = if cancels (after s run) e then accepted s run else earlier s run
+earlier s (run ▷ e) =
+    if begins (after s run) e then [] else if cancels (after s run) e then accepted s run else earlier s run
 
 unfoldable pub since : Station → Run → List ℕ
 since s start = []
-since s (run ▷ e) = if cancels (after s run) e then [] else since s run ++ acceptedIn (after s run) e
+since s (run ▷ e) =
+    if begins (after s run) e then [] else if cancels (after s run) e then [] else since s run ++ acceptedIn (after s run) e
+
+-- the case before these words: "starts at letters", at a call too; a station that a run takes up in another case has that until a call
+unfoldable pub caseFrom : Station → Run → Case
+caseFrom s start = s .case
+caseFrom s (run ▷ e) = if begins (after s run) e then Letters else caseFrom s run
 
 -- the case in force after a list of words: a shift sets it, and no other word moves it  R-091
 abbrev pub caseAt : Case → ℕ → Case
@@ -73,8 +92,9 @@ caseAfter c [] = c
 caseAfter c (w ∷ ws) = caseAfter (caseAt c w) ws
 
 -- The over is heard in `block`: `list` is what was accepted since the last cancelling step, `earlier` what was accepted before
--- it, and c the case at the start. The list with the block behind it is a beginning, a +, β any number of times, a ? that stands
--- in the block, and a rest; and figures case is in force where the + and where the ? stand.  R-086, R-087, R-088
+-- it in this circuit, and c the case at the circuit's start. The list with the block behind it is a beginning, a +, β any number
+-- of times, a ? that stands in the block, and a rest; and figures case is in force where the + and where the ? stand.  R-086, R-087,
+-- R-088
 pub record HeardOver (c : Case) (earlier list block : List ℕ) : Type 0 where
   pub beginning : List ℕ
   pub betas : ℕ
@@ -84,6 +104,6 @@ pub record HeardOver (c : Case) (earlier list block : List ℕ) : Type 0 where
   pub figures-at-cross : caseAfter c (earlier ++ beginning) ≡ Figures
   pub figures-at-query : caseAfter c (earlier ++ beginning ++ cross ∷ replicate betas beta) ≡ Figures
 
--- the same, for the block of an event after a run of a fresh station
+-- the same, for the block of an event after a run of a fresh station: letters at the start, and at each call
 abbrev pub OverIn : Role → Run → Event → Type 0
 OverIn role run e = HeardOver Letters (earlier (fresh role) run) (since (fresh role) run) (listOf (e .burst))

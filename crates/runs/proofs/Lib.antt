@@ -2,6 +2,8 @@
 --     PlaceLaws   places told apart by their numbers
 --     RowLaws     what each row may do
 --     StepLaws    an answer is what the row did; what is so of each thing that a row may do; what a refusal leaves
+--     TakenLaws   where a row takes the offer, and what is reported of it
 pub mod PlaceLaws
 pub mod RowLaws
 pub mod StepLaws
+pub mod TakenLaws

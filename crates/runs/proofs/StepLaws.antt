@@ -4,7 +4,10 @@
 --     held-block                      what is held at a sound place is a block
 --     placed, oneMore                 the same station at a place; with one more repetition
 --     by-repeat, by-take, by-accept   what is so of each answer that the row leaves open is so of the answer
---     lost-stays, standby-stays       silent for good
+--     by-listen                       the same of a station at Stand-by that answers no call
+--     own-kept, own-lasts             no step changes the own identity, and so no run
+--     lost-stays                      silent for good
+--     standby-answers, standby-listens   what Stand-by does, by whether both call blocks came
 --     keeps                           a refusal leaves the station as it was
 -- Assumes nothing.
 use mathlib.Core.Path.{_≡_, refl, ap, sym, _∙_}
@@ -22,16 +25,23 @@ use Rattle.mode_a.specs.declared.Role.the-variants.{Master, Slave}
 use Rattle.mode_a.specs.declared.Number.{Number}
 use Rattle.mode_a.specs.declared.Words.{Words}
 use Rattle.mode_a.specs.declared.Place.{Place}
+use Rattle.mode_a.specs.declared.Identity.{Identity}
+use Rattle.mode_a.specs.declared.Waiting.{Waiting}
+use Rattle.mode_a.specs.declared.Number.the-variants.{One}
 use Rattle.mode_a.specs.declared.Place.the-variants.{Receiving, Asking, StandBy, Lost}
 use Rattle.mode_a.specs.declared.Offer.{Offer}
 use Rattle.mode_a.specs.declared.Station.{Station}
 use Rattle.mode_a.specs.declared.Listening.{Listening}
+use Rattle.mode_a.specs.declared.Doing.{Doing}
+use Rattle.mode_a.specs.declared.Doing.the-variants.{Repeats, Goes, Takes, Receives, Opens, Accepts, Rests, Listens, Reaches}
 use Rattle.mode_a.specs.declared.Reply.{Reply}
 use Rattle.mode_a.specs.Station.{listOf, single, silence, ααα, other, asksFor}
-use Rattle.mode_a.specs.Heard.{mayHold, isBlock, isWords, heardOf}
-use Rattle.mode_a.specs.Rows.{rowOf, requests}
-use Rattle.mode_a.specs.Step.{movedTo, sends, holds, takes, repeats, heardAt, acceptsBy, trafficIn, done, soundPlace, sound, offered, stepping, stationAfter}
-use Rattle.runs.specs.Runs.{Event, said, next, InOrder}
+use Rattle.mode_a.specs.Calls.{isIdentity, signalsOf, isCallable}
+use Rattle.mode_a.specs.Heard.{mayHold, isBlock, isWords, callOf, heardOf}
+use Rattle.mode_a.specs.Over.{listenedAll}
+use Rattle.mode_a.specs.Rows.{rowOf, requests, bothHeard}
+use Rattle.mode_a.specs.Step.{standsAt, movedTo, begun, called, waitsOn, listens, reached, calledTo, sends, holds, takes, repeats, heardAt, isOver, acceptsBy, trafficIn, done, soundPlace, sound, offered, stepping, stationAfter}
+use Rattle.runs.specs.Runs.{Event, Run, start, _▷_, said, next, after, InOrder}
 
 -- what may stand in an offered text, and be held, is a block
 text-test : (w : Words) → (ltb (firstNot mayHold (listOf w)) 3 ≡ not (isBlock w)) × (leb 3 (firstNot mayHold (listOf w)) ≡ isBlock w)
@@ -47,46 +57,67 @@ text-test w = go (mayHold (w .0)) (mayHold (w .1)) (mayHold (w .2))
 pub held-block : (w : Words) → leb 3 (firstNot mayHold (listOf w)) ≡ isBlock w
 held-block w = text-test w .1
 
-fine : (o : Offer) → ltb (firstNot mayHold (offered o)) (length (offered o)) ≡ false → InOrder o
-fine (Offer.Text w) e = not-false (isBlock w) (sym (text-test w .0) ∙ e)
-fine Offer.Over e = tt
-fine Offer.End e = tt
-fine Offer.Nothing e = tt
+-- and what may stand in an offered call is an identity that can be called
+call-test : (i : Identity) → ltb (firstNot isIdentity (signalsOf i)) 4 ≡ not (isCallable i)
+unfolding firstNot isCallable
+call-test i = go (isIdentity (i .0)) (isIdentity (i .1)) (isIdentity (i .2)) (isIdentity (i .3))
+  where
+    go : (a b c d : Bool) → ltb (if a then suc (if b then suc (if c then suc (if d then suc 0 else 0) else 0) else 0) else 0) 4 ≡ not (a && (b && (c && d)))
+    go true true true true = refl
+    go true true true false = refl
+    go true true false d = refl
+    go true false c d = refl
+    go false b c d = refl
 
-not-refused : (o : Offer) → InOrder o → ltb (firstNot mayHold (offered o)) (length (offered o)) ≡ false
+abbrev badCall : Offer → Bool
+badCall o = ltb (firstNot isIdentity (calledTo o)) (length (calledTo o))
+
+abbrev badText : Offer → Bool
+badText o = ltb (firstNot mayHold (offered o)) (length (offered o))
+
+fine : (o : Offer) → badCall o ≡ false → badText o ≡ false → InOrder o
+fine (Offer.Text w) d e = not-false (isBlock w) (sym (text-test w .0) ∙ e)
+fine Offer.Over d e = tt
+fine Offer.End d e = tt
+fine Offer.Nothing d e = tt
+fine (Offer.Call i) d e = not-false (isCallable i) (sym (call-test i) ∙ d)
+
+not-refused : (o : Offer) → InOrder o → (badCall o ≡ false) × (badText o ≡ false)
 unfolding firstNot
-not-refused (Offer.Text w) i = text-test w .0 ∙ ap not i
-not-refused Offer.Over i = refl
-not-refused Offer.End i = refl
-not-refused Offer.Nothing i = refl
+not-refused (Offer.Text w) i = (refl, text-test w .0 ∙ ap not i)
+not-refused Offer.Over i = (refl, refl)
+not-refused Offer.End i = (refl, refl)
+not-refused Offer.Nothing i = (refl, refl)
+not-refused (Offer.Call x) i = (call-test x ∙ ap not i, refl)
 
 pub record Answers (s : Station) (b : Words) (o : Offer) (r : Reply) : Type 0 where
-  pub is-done : r ≡ done s b o (rowOf (s .role) (s .place) (heardOf b))
+  pub is-done : r ≡ done s b o (rowOf (s .role) (s .place) (heardOf (s .own) b))
   pub is-sound : soundPlace (s .place) ≡ true
   pub is-fine : InOrder o
 
 pub answers : (s : Station) (b : Words) (o : Offer) (r : Reply) → stepping s b o ≡ answered r → Answers s b o r
 unfolding stepping sound
 answers s b o r e =
-    go (leb (s .count) 31) (soundPlace (s .place)) (ltb (firstNot mayHold (offered o)) (length (offered o))) refl refl e
+    go (badCall o) (leb (s .count) 31) (soundPlace (s .place)) (badText o) refl refl refl e
   where
-    go : (c p q : Bool) → soundPlace (s .place) ≡ p → ltb (firstNot mayHold (offered o)) (length (offered o)) ≡ q → _≡_ {A = Answer Reply} (if not (c && p) then refused 4 0 else if q then refused 3 (firstNot mayHold (offered o)) else answered (done s b o (rowOf (s .role) (s .place) (heardOf b)))) (answered r) → Answers s b o r
-    go false p q i j e = let z : _≡_ {A = ℕ} 0 1 = cc in absurd (omega arith)
-    go true false q i j e = let z : _≡_ {A = ℕ} 0 1 = cc in absurd (omega arith)
-    go true true true i j e = let z : _≡_ {A = ℕ} 0 1 = cc in absurd (omega arith)
-    go true true false i j e = record { is-done = cc; is-sound = i; is-fine = fine o j }
+    go : (d c p q : Bool) → badCall o ≡ d → soundPlace (s .place) ≡ p → badText o ≡ q → _≡_ {A = Answer Reply} (if d then refused 8 (firstNot isIdentity (calledTo o)) else if not (c && p) then refused 4 0 else if q then refused 3 (firstNot mayHold (offered o)) else answered (done s b o (rowOf (s .role) (s .place) (heardOf (s .own) b)))) (answered r) → Answers s b o r
+    go true c p q h i j e = let z : _≡_ {A = ℕ} 0 1 = cc in absurd (omega arith)
+    go false false p q h i j e = let z : _≡_ {A = ℕ} 0 1 = cc in absurd (omega arith)
+    go false true false q h i j e = let z : _≡_ {A = ℕ} 0 1 = cc in absurd (omega arith)
+    go false true true true h i j e = let z : _≡_ {A = ℕ} 0 1 = cc in absurd (omega arith)
+    go false true true false h i j e = record { is-done = cc; is-sound = i; is-fine = fine o h j }
 
-pub is-answered : (s : Station) (b : Words) (o : Offer) → sound s ≡ true → InOrder o → stepping s b o ≡ answered (done s b o (rowOf (s .role) (s .place) (heardOf b)))
+pub is-answered : (s : Station) (b : Words) (o : Offer) → sound s ≡ true → InOrder o → stepping s b o ≡ answered (done s b o (rowOf (s .role) (s .place) (heardOf (s .own) b)))
 unfolding stepping
-is-answered s b o t i = rw (t, not-refused o i)
+is-answered s b o t i = rw (not-refused o i .0, t, not-refused o i .1)
 
 -- the same station at a place; every station is so at its own
 abbrev pub placed : Station → Place → Station
-placed s p = record { role = s .role; place = p; count = s .count; case = s .case; plus = s .plus }
+placed s p = standsAt s p (s .count) (s .case) (s .plus)
 
 -- a row that repeats: this is the 32nd in a row, or it is one more
 abbrev pub oneMore : Station → Station
-oneMore s = record { role = s .role; place = s .place; count = s .count + 1; case = s .case; plus = s .plus }
+oneMore s = standsAt s (s .place) (s .count + 1) (s .case) (s .plus)
 
 pub by-repeat : (P : Reply → Type 0) (s : Station) (w : Words) → (leb 31 (s .count) ≡ true → P (sends (movedTo s Lost) silence)) → (leb 31 (s .count) ≡ false → P (sends (oneMore s) w)) → P (repeats s w)
 by-repeat P s w = go (leb 31 (s .count))
@@ -96,19 +127,21 @@ by-repeat P s w = go (leb 31 (s .count))
     go false lost more = more refl
 
 -- a row that takes the offer: a block is held, or ααα is sent for the first time
-pub by-take : (P : Reply → Type 0) (s : Station) (n : Number) (o : Offer) → ((w : Words) → P (holds s n w)) → P (takes s n Offer.End) → P (takes s n o)
-by-take P s n (Offer.Text w) block end = block w
-by-take P s n Offer.Over block end = block _
+pub by-take : (P : Reply → Type 0) (s : Station) (n : Number) (o : Offer) → ((w : Words) (t : Bool) → P (holds s n w t)) → P (takes s n Offer.End) → P (takes s n o)
+by-take P s n (Offer.Text w) block end = block w true
+by-take P s n Offer.Over block end = block _ true
 by-take P s n Offer.End block end = end
-by-take P s n Offer.Nothing block end = block _
+by-take P s n Offer.Nothing block end = block _ true
+by-take P s n (Offer.Call i) block end = block _ false
 
 -- and where the offer is in order, it is a block
-pub by-take-block : (P : Reply → Type 0) (s : Station) (n : Number) (o : Offer) → InOrder o → ((w : Words) → isBlock w ≡ true → P (holds s n w)) → P (takes s n Offer.End) → P (takes s n o)
+pub by-take-block : (P : Reply → Type 0) (s : Station) (n : Number) (o : Offer) → InOrder o → ((w : Words) (t : Bool) → isBlock w ≡ true → P (holds s n w t)) → P (takes s n Offer.End) → P (takes s n o)
 unfolding isBlock mayHold trafficOf meaningOf
-by-take-block P s n (Offer.Text w) i block end = block w i
-by-take-block P s n Offer.Over i block end = block _ refl
+by-take-block P s n (Offer.Text w) i block end = block w true i
+by-take-block P s n Offer.Over i block end = block _ true refl
 by-take-block P s n Offer.End i block end = end
-by-take-block P s n Offer.Nothing i block end = block _ refl
+by-take-block P s n Offer.Nothing i block end = block _ true refl
+by-take-block P s n (Offer.Call x) i block end = block _ false refl
 
 -- a row that accepts: CS3 and Asking, or the other number
 pub by-accept : (P : Reply → Type 0) (s : Station) (n : Number) (b : Words) (t : Bool) (l : Listening) → ((u : Bool) → P (record { station = heardAt s Asking l; sent = single cs3; printed = trafficIn b; taken = u })) → P (record { station = heardAt s (Receiving (other n)) l; sent = asksFor (other n); printed = trafficIn b; taken = false }) → P (acceptsBy s n b t l)
@@ -119,15 +152,47 @@ by-accept P s n b false l asks awaits = go (l .over)
     go true = asks false
     go false = awaits
 
--- "Stand-by and Lost: silent for good, no offer taken"
+-- a row of Stand-by that answers no call: the call that is offered is placed, or it waits on
+pub by-listen : (P : Reply → Type 0) (s : Station) (w : Waiting) (o : Offer) → ((i : Identity) → o ≡ Offer.Call i → w .wait ≡ 0 → P (called s i)) → P (waitsOn s w) → P (listens s w o)
+by-listen P s w (Offer.Text b) place wait = wait
+by-listen P s w Offer.Over place wait = wait
+by-listen P s w Offer.End place wait = wait
+by-listen P s w Offer.Nothing place wait = wait
+by-listen P s w (Offer.Call i) place wait = go (eqb (w .wait) 0) refl
+  where
+    go : (t : Bool) → eqb (w .wait) 0 ≡ t → P (if t then called s i else waitsOn s w)
+    go true e = place i refl (eqb-true (w .wait) 0 e)
+    go false e = wait
+
+-- the own identity: no step changes it
+pub own-kept : (s : Station) (b : Words) (o : Offer) (d : Doing) → done s b o d .station .own ≡ s .own
+unfolding done
+own-kept s b o (Repeats w) = by-repeat (λ (r : Reply). r .station .own ≡ s .own) s w (λ t. refl) (λ t. refl)
+own-kept s b o (Goes p w) = refl
+own-kept s b o (Takes n) = by-take (λ (r : Reply). r .station .own ≡ s .own) s n o (λ w t. refl) refl
+own-kept s b o (Receives n) = refl
+own-kept s b o Opens = refl
+own-kept s b o (Accepts n) = by-accept (λ (r : Reply). r .station .own ≡ s .own) s n b (isOver o) (listenedAll (s .case) (s .plus) b) (λ u. refl) refl
+own-kept s b o (Rests n w) = refl
+own-kept s b o Doing.Answers = refl
+own-kept s b o (Listens w) = by-listen (λ (r : Reply). r .station .own ≡ s .own) s w o (λ i e z. refl) refl
+own-kept s b o (Reaches i n) = by-take (λ (r : Reply). r .station .own ≡ s .own) (reached s i) n o (λ w t. refl) refl
+
+-- "Lost: silent for good, no offer taken"
 module _ (s : Station) (b : Words) (o : Offer) (r : Reply) (a : Answers s b o r) where
   pub lost-stays : s .place ≡ Lost → r ≡ sends (movedTo s Lost) silence
   unfolding done
   lost-stays e = a .is-done ∙ rw e
 
-  pub standby-stays : s .place ≡ StandBy → r ≡ sends (movedTo s StandBy) silence
-  unfolding done
-  standby-stays e = a .is-done ∙ rw e
+  -- and Stand-by that hears the second of its own call blocks, or does not
+  module _ (w : Waiting) (e : s .place ≡ StandBy w) where
+    pub standby-answers : bothHeard (w .heard) (callOf (s .own .four) b) ≡ true → r ≡ sends (begun s Slave (Receiving One)) (asksFor One)
+    unfolding done heardOf
+    standby-answers t = a .is-done ∙ rw (e, t)
+
+    pub standby-listens : bothHeard (w .heard) (callOf (s .own .four) b) ≡ false → r ≡ listens s (record { wait = w .wait; heard = callOf (s .own .four) b }) o
+    unfolding done heardOf
+    standby-listens t = a .is-done ∙ rw (e, t)
 
 -- what every answer keeps is kept
 pub keeps : (P : Station → Type 0) (s : Station) (e : Event) → ((r : Reply) → said s e ≡ answered r → P s → P (r .station)) → P s → P (next s e)
@@ -136,6 +201,12 @@ keeps P s e step p = go (said s e) refl
     go : (a : Answer Reply) → said s e ≡ a → P (stationAfter s a)
     go (answered r) i = step r i p
     go (refused n v) i = p
+
+-- the own identity is that of the start, in every run
+pub own-lasts : (s : Station) (run : Run) → after s run .own ≡ s .own
+own-lasts s start = refl
+own-lasts s (run ▷ e) =
+    keeps (λ (t : Station). t .own ≡ s .own) (after s run) e (λ r p i. ap (λ (r : Reply). r .station .own) (answers (after s run) (e .burst) (e .offer) r p .is-done) ∙ own-kept (after s run) (e .burst) (e .offer) _ ∙ i) (own-lasts s run)
 
 -- neither a request nor a block is ααα
 pub requests-no-ααα : (r : Role) → isWords (requests r) ααα ≡ false

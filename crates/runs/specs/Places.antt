@@ -1,4 +1,4 @@
--- 01, The station: what is asked of a place, whatever the place carries.  R-046
+-- 01, The station, and 02, T-02: what is asked of a place, whatever the place carries.  R-046
 --
 -- All of it is made from `known`: a place more is entered there, and in `counting` if its repetitions count.
 -- Assumes nothing.
@@ -8,7 +8,7 @@ use lib.Dec.{eqb}
 use Rattle.mode_a.specs.declared.Held.{Held}
 use Rattle.mode_a.specs.declared.Ended.{Ended}
 use Rattle.mode_a.specs.declared.Place.{Place}
-use Rattle.mode_a.specs.declared.Place.the-variants.{Sending, Turning, Opening, Ending, Receiving, Asking, StandBy, Lost}
+use Rattle.mode_a.specs.declared.Place.the-variants.{Sending, Turning, Opening, Ending, Receiving, Asking, StandBy, Lost, Calling}
 
 -- what a place carries, as far as it is asked for here: the block held at Sending, the total of Ending
 pub data Inner : Type 0 where
@@ -16,7 +16,7 @@ pub data Inner : Type 0 where
   with-total : Ended → Inner
   neither : Inner
 
--- the number of a place, in 01's order, and what it carries
+-- the number of a place, in 01's order and then 02's, and what it carries
 abbrev pub known : Place → ℕ × Inner
 known (Sending h) = (0, with-block h)
 known (Turning n) = (1, neither)
@@ -24,8 +24,9 @@ known Opening = (2, neither)
 known (Ending e) = (3, with-total e)
 known (Receiving n) = (4, neither)
 known Asking = (5, neither)
-known StandBy = (6, neither)
+known (StandBy w) = (6, neither)
 known Lost = (7, neither)
+known (Calling c) = (8, neither)
 
 abbrev pub placeNo : Place → ℕ
 placeNo p = known p .0
@@ -42,20 +43,29 @@ isTurning p = eqb (placeNo p) 1
 abbrev pub isOpening : Place → Bool
 isOpening p = eqb (placeNo p) 2
 
+abbrev pub isEnding : Place → Bool
+isEnding p = eqb (placeNo p) 3
+
 abbrev pub isReceiving : Place → Bool
 isReceiving p = eqb (placeNo p) 4
 
 abbrev pub isAsking : Place → Bool
 isAsking p = eqb (placeNo p) 5
 
+abbrev pub isStandBy : Place → Bool
+isStandBy p = eqb (placeNo p) 6
+
 abbrev pub isLost : Place → Bool
 isLost p = eqb (placeNo p) 7
+
+abbrev pub isCalling : Place → Bool
+isCalling p = eqb (placeNo p) 8
 
 -- "changes place"
 abbrev pub changed : Place → Place → Bool
 changed p p′ = not (eqb (placeNo p) (placeNo p′))
 
--- "at Sending, Turning, Opening, Receiving or Asking"  R-096; "Ending has its four instead."  R-100
+-- "at Sending, Turning, Opening, Receiving or Asking"  R-096; "Ending has its four instead."  R-100. Calling has its 128.
 abbrev pub counting : Place → Bool
 counting p = isSending p || isTurning p || isOpening p || isReceiving p || isAsking p
 

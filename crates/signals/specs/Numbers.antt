@@ -1,4 +1,4 @@
--- 01, Numbers returned: a call answers, or it refuses by one of these numbers with a value beside it.
+-- 01, Numbers returned, and 02: a call answers, or it refuses by one of these numbers with a value beside it.
 --     1   encoding: a byte without a signal                              index of the first
 --     2   encoding, printing: lent room too short                        room needed
 --     3   a word that may not stand there: text offer (traffic, β),
@@ -9,6 +9,8 @@
 --     5   encoding: over 4,096 characters                                4,096
 --     6   mode B: slot past the last                                     number of slots
 --     7   over 8,192 signals for mode B or printing                      8,192
+--     8   call offered, own identity: a signal outside table 3a
+--         (02, T-02)                                                     index of the first
 -- Which of them a call can give, and in which order it looks for them, stands with the call's own definition.
 -- Assumes nothing.
 use mathlib.Core.Bool.{Bool}

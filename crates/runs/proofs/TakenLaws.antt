@@ -1,0 +1,103 @@
+-- Where a row takes the offer, told by the place and the first word, and what the answer reports of it.
+--     takes-by-row        the test of a place and a first word is that of the row
+--     taken-as-reported   of every offer but a call, a block is taken exactly where the answer says so and the station is at Sending
+-- Assumes nothing.
+use mathlib.Core.Path.{_≡_, refl, ap, sym, _∙_}
+use mathlib.Core.Bool.{Bool, true, false, not, _&&_, and-false, true≢false}
+use lib.Dec.{leb}
+use Rattle.laws.specs.Choice.{if_then_else_}
+use Rattle.mode_a.specs.declared.Role.{Role}
+use Rattle.mode_a.specs.declared.Number.{Number}
+use Rattle.mode_a.specs.declared.Words.{Words}
+use Rattle.mode_a.specs.declared.Held.{Held}
+use Rattle.mode_a.specs.declared.Place.{Place}
+use Rattle.mode_a.specs.declared.Place.the-variants.{Sending, Turning, Opening, Ending, Receiving, Asking, StandBy, Lost, Calling}
+use Rattle.mode_a.specs.declared.Offer.{Offer}
+use Rattle.mode_a.specs.declared.Station.{Station}
+use Rattle.mode_a.specs.declared.Doing.{Doing}
+use Rattle.mode_a.specs.declared.Doing.the-variants.{Repeats, Goes, Takes, Receives, Opens, Accepts, Rests, Answers, Listens, Reaches}
+use Rattle.mode_a.specs.declared.Reply.{Reply}
+use Rattle.mode_a.specs.declared.Called.{Called}
+use Rattle.mode_a.specs.Station.{same, marks, markOf, other}
+use Rattle.mode_a.specs.Heard.{First, Cs, Cs3, Rq, Else, Heard, firstOf, heardOf}
+use Rattle.mode_a.specs.Over.{listenedAll}
+use Rattle.mode_a.specs.Rows.{rowOf, callsOn}
+use Rattle.mode_a.specs.Step.{takes, reached, isOver, done}
+use Rattle.runs.specs.Places.{isSending}
+use Rattle.runs.specs.Runs.{isCall, isTaking, taking}
+use Rattle.runs.proofs.RowLaws.{by-turning, by-ending, by-receiving, by-asking, by-standing}
+use Rattle.runs.proofs.StepLaws.{Answers as Answered, by-repeat, by-accept, by-listen}
+
+Is : Bool → Doing → Type 0
+Is t d = t ≡ isTaking d
+
+calls-on-takes-none : (c : Called) (t : Bool) (d e : Doing) → isTaking d ≡ false → isTaking e ≡ false → false ≡ isTaking (if t then d else e)
+calls-on-takes-none c true d e p q = sym p
+calls-on-takes-none c false d e p q = sym q
+
+pub takes-by-row : (r : Role) (p : Place) (h : Heard) → taking p (h .first) ≡ isTaking (rowOf r p h)
+unfolding Is
+takes-by-row r (Sending x) h = go (h .first)
+  where
+    by-number : (t : Bool) (d e : Doing) → isTaking d ≡ false → isTaking e ≡ true → not t ≡ isTaking (if t then d else e)
+    by-number true d e p q = sym p
+    by-number false d e p q = sym q
+
+    go : (f : First) → taking (Sending x) f ≡ isTaking (rowOf r (Sending x) (record { first = f; block = h .block; RQs = h .RQs; alphas = h .alphas; turned = h .turned; call = h .call }))
+    go (Cs n) = by-number (same n (x .number)) (Repeats (x .block)) (Takes (other (x .number))) refl refl
+    go Cs3 = refl
+    go Rq = refl
+    go Else = refl
+takes-by-row r (Turning n) h = by-turning (Is false) r n h refl refl refl
+takes-by-row r Opening h = go (h .first)
+  where
+    go : (f : First) → taking Opening f ≡ isTaking (rowOf r Opening (record { first = f; block = h .block; RQs = h .RQs; alphas = h .alphas; turned = h .turned; call = h .call }))
+    go (Cs n) = refl
+    go Cs3 = refl
+    go Rq = refl
+    go Else = refl
+takes-by-row r (Ending e) h = by-ending (Is false) e (h .first) refl (λ l. refl)
+takes-by-row r (Receiving n) h = by-receiving (Is false) n h (λ c. refl) (λ c. refl) (λ c. refl)
+takes-by-row r Asking h = by-asking (Is false) h refl refl
+takes-by-row r (StandBy w) h = by-standing (Is false) w h (λ c. refl) (λ c. refl)
+takes-by-row r Lost h = refl
+takes-by-row r (Calling c) h = go (h .first)
+  where
+    by-mark : (t : Bool) (n : Number) (e : Doing) → isTaking e ≡ false → t ≡ isTaking (if t then Reaches (c .to) n else e)
+    by-mark true n e p = refl
+    by-mark false n e p = sym p
+
+    go : (f : First) → taking (Calling c) f ≡ isTaking (rowOf r (Calling c) (record { first = f; block = h .block; RQs = h .RQs; alphas = h .alphas; turned = h .turned; call = h .call }))
+    go (Cs n) = by-mark (marks (c .last) n) n (callsOn c (markOf n)) (sym (calls-on-takes-none c (leb 128 (c .sent)) _ _ refl refl))
+    go Cs3 = refl
+    go Rq = calls-on-takes-none c (leb 128 (c .sent)) _ _ refl refl
+    go Else = calls-on-takes-none c (leb 128 (c .sent)) _ _ refl refl
+
+-- what is reported: at Sending afterwards, exactly that a row took
+Told : Bool → Reply → Type 0
+Told t r = (t && isSending (r .station .place)) ≡ (r .taken && isSending (r .station .place))
+
+by-offer : (s : Station) (n : Number) (o : Offer) → isCall o ≡ false → Told true (takes s n o)
+unfolding Told
+by-offer s n (Offer.Text w) c = refl
+by-offer s n Offer.Over c = refl
+by-offer s n Offer.End c = refl
+by-offer s n Offer.Nothing c = refl
+by-offer s n (Offer.Call i) c = absurd (true≢false c)
+
+by-doing : (s : Station) (b : Words) (o : Offer) (d : Doing) → isCall o ≡ false → Told (isTaking d) (done s b o d)
+unfolding Told done
+by-doing s b o (Repeats w) c = by-repeat (Told false) s w (λ e. refl) (λ e. refl)
+by-doing s b o (Goes p w) c = refl
+by-doing s b o (Takes n) c = by-offer s n o c
+by-doing s b o (Receives n) c = refl
+by-doing s b o Opens c = refl
+by-doing s b o (Accepts n) c = by-accept (Told false) s n b (isOver o) (listenedAll (s .case) (s .plus) b) (λ u. sym (and-false u)) refl
+by-doing s b o (Rests n w) c = refl
+by-doing s b o Answers c = refl
+by-doing s b o (Listens w) c = by-listen (Told false) s w o (λ i e z. refl) refl
+by-doing s b o (Reaches i n) c = by-offer (reached s i) n o c
+
+pub taken-as-reported : (s : Station) (b : Words) (o : Offer) (r : Reply) → Answered s b o r → isCall o ≡ false → (taking (s .place) (firstOf (b .0)) && isSending (r .station .place)) ≡ (r .taken && isSending (r .station .place))
+unfolding Told heardOf
+taken-as-reported s b o r a c = rw (a .is-done, takes-by-row (s .role) (s .place) (heardOf (s .own) b)) (by-doing s b o (rowOf (s .role) (s .place) (heardOf (s .own) b)) c)
