@@ -113,7 +113,7 @@ fn marks(last: Mark, number: Number) -> bool
     ensures { λ r. ⌜ r ≡ marks last number ⌝ }
 {
     match last {
-        Mark::None => false,
+        Mark::None => false, // neither was heard
         Mark::One => match number {
             Number::One => true,
             Number::Two => false,

@@ -75,10 +75,11 @@ fn called(s: Station, to: Identity) -> Reply
         last: Mark::None,
     };
     let block = to.block_1();
+    let nothing = mode_a::SILENCE;
     Reply {
         station: stands::begun(s, Role::Master, Place::Calling(call)),
         sent: block,
-        printed: mode_a::SILENCE,
+        printed: nothing,
         taken: true,
     }
 }
