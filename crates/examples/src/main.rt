@@ -222,6 +222,13 @@ fn put_burst(line: &mut [u8], at: usize, burst: Words) -> usize {
     numbers::put_number(line, to, burst.2)
 }
 
+fn put_whether(line: &mut [u8], at: usize, printed: Words) -> usize {
+    if printed.0 == 0 {
+        return numbers::put_all(line, at, b", ");
+    }
+    numbers::put_all(line, at, b", accepted and printed, ")
+}
+
 // What a step sends, whether it printed, and the place it leads to.
 fn put_answer(line: &mut [u8], at: usize, reply: Reply) -> usize {
     let station = reply.station;
@@ -229,10 +236,7 @@ fn put_answer(line: &mut [u8], at: usize, reply: Reply) -> usize {
     let sent = reply.sent;
     let printed = reply.printed;
     let mut to = put_burst(line, at, sent);
-    if printed.0 != 0 {
-        to = numbers::put_all(line, to, b", accepted and printed");
-    }
-    to = numbers::put_all(line, to, b", ");
+    to = put_whether(line, to, printed);
     put_place(line, to, place)
 }
 
@@ -279,8 +283,8 @@ fn standing(identity: Identity) -> Station {
     }
 }
 
-// The call blocks in turn, the second of them damaged: it takes two more.
-fn calls(line: &mut [u8], at: usize) -> Pair {
+// The call blocks in turn, the second of them damaged.
+fn called(line: &mut [u8], at: usize) -> Pair {
     let pair = Pair {
         caller: standing(DOCK),
         called: standing(VXQZ),
@@ -288,30 +292,40 @@ fn calls(line: &mut [u8], at: usize) -> Pair {
         at,
     };
     let one = exchange(line, pair, b"call, exchange 1: ", Offer::Call(VXQZ), false);
-    let two = exchange(
+    exchange(
         line,
         one,
         b"call, exchange 2, the burst damaged: ",
         Offer::Nothing,
         true,
-    );
-    let three = exchange(line, two, b"call, exchange 3: ", Offer::Nothing, false);
-    exchange(line, three, b"call, exchange 4: ", Offer::Nothing, false)
+    )
 }
 
-// A call of two stations at Stand-by: after two CS1 the caller goes on to traffic.
-fn worked_call(line: &mut [u8], at: usize) -> usize {
-    let pair = calls(line, at);
+// Both of them once more, which are answered.
+fn answered(line: &mut [u8], at: usize) -> Pair {
+    let pair = called(line, at);
+    let one = exchange(line, pair, b"call, exchange 3: ", Offer::Nothing, false);
+    exchange(line, one, b"call, exchange 4: ", Offer::Nothing, false)
+}
+
+// After two CS1 the caller goes on to traffic.
+fn connected(line: &mut [u8], at: usize) -> Pair {
+    let pair = answered(line, at);
     let one = exchange(line, pair, b"call, exchange 5: ", Offer::Nothing, false);
-    let two = exchange(
+    exchange(
         line,
         one,
         b"call, exchange 6, TEA offered: ",
         Offer::Text(Words(116, 86, 71)),
         false,
-    );
-    let three = exchange(line, two, b"call, exchange 7: ", Offer::Nothing, false);
-    three.at
+    )
+}
+
+// A call of two stations at Stand-by, as far as the confirmation of the first block.
+fn worked_call(line: &mut [u8], at: usize) -> usize {
+    let pair = connected(line, at);
+    let last = exchange(line, pair, b"call, exchange 7: ", Offer::Nothing, false);
+    last.at
 }
 
 fn put_slots(line: &mut [u8], at: usize, slots: usize) -> usize {
