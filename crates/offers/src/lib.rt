@@ -16,6 +16,7 @@ use mode_a::Station;
 use mode_a::Waiting;
 use mode_a::Words;
 
+// What over and nothing put into a block.
 const OVER: Words = Words(signals::FIGURES, acceptance::CROSS, acceptance::QUERY);
 
 const BETAS: Words = Words(signals::BETA, signals::BETA, signals::BETA);
@@ -84,6 +85,7 @@ fn called(s: Station, to: Identity) -> Reply
     }
 }
 
+// One less, and never below none.
 fn one_less(wait: u8) -> u8
     ensures { λ r. ⌜ r ≡ wait - 1 ⌝ }
 {
