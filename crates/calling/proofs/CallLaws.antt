@@ -37,19 +37,20 @@ module _ (i : Identity) (n : ℕ) (e : n ≡ firstNot isIdentity (signalsOf i)) 
   pub none-outside : 4 ≤ n → isCallable i ≡ true
   none-outside h = callable-is i ∙ rw (← e) (le-leb 4 n h)
 
-module _ (i : Identity) (b : Words) where
-  pub is-first : isWords b (callBlock1 i) ≡ true → (if isCallable i then Mark.One else Mark.None) ≡ callOf i b
+-- w is call block 1, and v call block 2
+module _ (i : Identity) (b w : Words) (ew : w ≡ callBlock1 i) where
+  pub is-first : isWords b w ≡ true → (if isCallable i then Mark.One else Mark.None) ≡ callOf i b
   unfolding callOf
-  is-first p = rw p
+  is-first p = rw (ap (isWords b) (sym ew) ∙ p)
 
-  module _ (p : isWords b (callBlock1 i) ≡ false) where
-    pub is-second : isWords b (callBlock2 i) ≡ true → (if isCallable i then Mark.Two else Mark.None) ≡ callOf i b
+  module _ (p : isWords b w ≡ false) (v : Words) (ev : v ≡ callBlock2 i) where
+    pub is-second : isWords b v ≡ true → (if isCallable i then Mark.Two else Mark.None) ≡ callOf i b
     unfolding callOf
-    is-second q = rw (p, q)
+    is-second q = rw (ap (isWords b) (sym ew) ∙ p, ap (isWords b) (sym ev) ∙ q)
 
-    pub is-neither : isWords b (callBlock2 i) ≡ false → Mark.None ≡ callOf i b
+    pub is-neither : isWords b v ≡ false → Mark.None ≡ callOf i b
     unfolding callOf
-    is-neither q = rw (p, q) (none (isCallable i))
+    is-neither q = rw (ap (isWords b) (sym ew) ∙ p, ap (isWords b) (sym ev) ∙ q) (none (isCallable i))
       where
         none : (c : Bool) → Mark.None ≡ (if c then Mark.None else Mark.None)
         none true = refl

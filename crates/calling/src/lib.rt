@@ -1,5 +1,5 @@
-// What Stand-by and Calling do with what they hear (02, T-02; 001, 3.5). Which place hears, and what a control signal at Calling is, is
-// told by `table`; `moves` hands over what the place carries.
+// What Stand-by and Calling do with what they hear (02, T-02; 001, 3.5). Which kind of burst it is, is told by `table`, and what the
+// place carries by `carried`.
 ghost use mathlib.Core.Path.{_≡_};
 ghost use Rattle.laws.specs.Choice.{if_then_else_};
 ghost use Rattle.mode_a.specs.Calls.{isCallable, nextBlock};
@@ -33,10 +33,12 @@ fn if_callable(four: Identity, mark: Mark) -> Mark
 fn call_of(four: Identity, b: Words) -> Mark
     ensures { λ r. ⌜ r ≡ callOf four b ⌝ }
 {
-    if table::is_words(b, four.0, signals::RQ, four.1) {
+    let first = four.block_1();
+    if table::is_words(b, first.0, first.1, first.2) {
         return if_callable(four, Mark::One);
     }
-    if table::is_words(b, four.2, four.3, signals::RQ) {
+    let second = four.block_2();
+    if table::is_words(b, second.0, second.1, second.2) {
         return if_callable(four, Mark::Two);
     }
     Mark::None
@@ -113,7 +115,7 @@ fn marks(last: Mark, number: Number) -> bool
     ensures { λ r. ⌜ r ≡ marks last number ⌝ }
 {
     match last {
-        Mark::None => false,
+        Mark::None => false, // neither was heard
         Mark::One => match number {
             Number::One => true,
             Number::Two => false,

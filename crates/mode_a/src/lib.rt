@@ -344,8 +344,10 @@ impl Station {
         if outside < 4 {
             return Stood::BadIdentity(outside);
         }
+        // neither master nor slave yet (001, 3.5.1): the type has no third role, and no row of Stand-by looks at it
+        let role = Role::Slave;
         Stood::By(Station {
-            role: Role::Slave,
+            role: role,
             place: Place::StandBy(Waiting {
                 wait: 0,
                 heard: Mark::None,

@@ -170,7 +170,7 @@ sends-unique s w r r′ p q = unique p q
 pub repeats-unique : (s : Station) (w : Words) (r r′ : Reply) → r ≡ repeats s w → r′ ≡ repeats s w → r ≡ r′
 repeats-unique s w r r′ p q = unique p q
 
--- `accepting::accepts`; `taking::takes`, `taking::listens`
+-- `acceptance::accepts`; `offers::takes`, `offers::listens`
 pub accepts-unique : (s : Station) (n : Number) (b : Words) (o : Offer) (r r′ : Reply) → r ≡ accepts s n b o → r′ ≡ accepts s n b o → r ≡ r′
 accepts-unique s n b o r r′ p q = unique p q
 

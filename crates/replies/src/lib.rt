@@ -64,7 +64,7 @@ fn answers(s: Station) -> Reply
 fn reaches(s: Station, four: Identity, number: Number, offer: Offer) -> Reply
     ensures { λ r. ⌜ r ≡ takes (reached s four) number offer ⌝ }
 {
-    taking::takes(stands::reached(s, four), number, offer)
+    offers::takes(stands::reached(s, four), number, offer)
 }
 
 // The answer of the station `s` that hears the burst `b` and is offered `offer`. It refuses nothing: `station::step` judges before.
@@ -74,13 +74,13 @@ pub fn done(s: Station, b: Words, offer: Offer, doing: Doing) -> Reply
     match doing {
         Doing::Repeats(words) => stands::repeats(s, words),
         Doing::Goes(place, words) => goes(s, place, words),
-        Doing::Takes(number) => taking::takes(s, number, offer),
+        Doing::Takes(number) => offers::takes(s, number, offer),
         Doing::Receives(number) => receives(s, number),
         Doing::Opens => opens(s),
-        Doing::Accepts(number) => accepting::accepts(s, number, b, offer),
+        Doing::Accepts(number) => acceptance::accepts(s, number, b, offer),
         Doing::Rests(wait, words) => rests(s, wait, words),
         Doing::Answers => answers(s),
-        Doing::Listens(waiting) => taking::listens(s, waiting, offer),
+        Doing::Listens(waiting) => offers::listens(s, waiting, offer),
         Doing::Reaches(four, number) => reaches(s, four, number, offer),
     }
 }

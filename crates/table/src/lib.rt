@@ -126,8 +126,8 @@ const ROWS: [[Action; 12]; 9] = [
     [EN1, EN1, EN2, EN2, END, END, END, END, END, END, END, END], // Ending
     [ACC, ASK, ACC, ASK, ACC, ASK, ASK, ASK, ACC, ASK, FIN, ASK], // Receiving
     [CS3, CS3, CS3, CS3, CS3, CS3, CS3, CS3, CS3, OPN, CS3, CS3], // Asking
-    [LIS, LIS, LIS, LIS, LIS, LIS, LIS, LIS, LIS, LIS, LIS, LIS], // Stand-by
-    [SIL, SIL, SIL, SIL, SIL, SIL, SIL, SIL, SIL, SIL, SIL, SIL], // Lost
+    [LIS; 12], // Stand-by
+    [SIL; 12], // Lost
     [CL1, CL1, CL2, CL2, STP, STP, CLL, CLL, CLL, CLL, CLL, CLL], // Calling
 ];
 

@@ -5,7 +5,7 @@ use Rattle.replies.proofs.done.Statement.{statement}
 use Rattle.replies.proofs.done.Tie as tie
 use Rattle.replies.proofs.done.Reads as reads
 use Rattle.replies.proofs.done.Lts as lts
-use Rattle.accepting.proofs.accepts.Reads as accepts-reads
+use Rattle.acceptance.proofs.accepts.Reads as accepts-reads
 use Rattle.replies.proofs.answers.Reads as answers-reads
 use Rattle.replies.proofs.goes.Reads as goes-reads
 use Rattle.replies.proofs.opens.Reads as opens-reads
@@ -13,8 +13,8 @@ use Rattle.replies.proofs.reaches.Reads as reaches-reads
 use Rattle.replies.proofs.receives.Reads as receives-reads
 use Rattle.replies.proofs.rests.Reads as rests-reads
 use Rattle.stands.proofs.repeats.Reads as repeats-reads
-use Rattle.taking.proofs.listens.Reads as listens-reads
-use Rattle.taking.proofs.takes.Reads as takes-reads
+use Rattle.offers.proofs.listens.Reads as listens-reads
+use Rattle.offers.proofs.takes.Reads as takes-reads
 
 enum-known-doing : tie.Need-enum-known-doing
 enum-known-doing c = search needs

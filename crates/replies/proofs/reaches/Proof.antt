@@ -5,7 +5,7 @@ use Rattle.replies.proofs.reaches.Tie as tie
 use Rattle.replies.proofs.reaches.Reads as reads
 use Rattle.replies.proofs.reaches.Lts as lts
 use Rattle.stands.proofs.reached.Reads as reached-reads
-use Rattle.taking.proofs.takes.Reads as takes-reads
+use Rattle.offers.proofs.takes.Reads as takes-reads
 
 reached-requires : tie.Need-reached-requires
 reached-requires c κs = search needs

@@ -1,0 +1,129 @@
+// What becomes of the offer (01, The station; 02, T-02): a row takes it under a number, or Stand-by places the call that is offered.
+ghost use mathlib.Core.Path.{_≡_};
+ghost use Prim.Native.Nat.{_-_};
+ghost use Rattle.mode_a.specs.Step.{holds, takes, called, waitsOn, listens};
+use mode_a::Called;
+use mode_a::Ended;
+use mode_a::Held;
+use mode_a::Identity;
+use mode_a::Mark;
+use mode_a::Number;
+use mode_a::Offer;
+use mode_a::Place;
+use mode_a::Reply;
+use mode_a::Role;
+use mode_a::Station;
+use mode_a::Waiting;
+use mode_a::Words;
+
+// What over and nothing put into a block.
+const OVER: Words = Words(signals::FIGURES, acceptance::CROSS, acceptance::QUERY);
+
+const BETAS: Words = Words(signals::BETA, signals::BETA, signals::BETA);
+
+// The block is held under the number, and sent.
+fn holds(s: Station, number: Number, block: Words, taken: bool) -> Reply
+    ensures { λ r. ⌜ r ≡ holds s number block taken ⌝ }
+{
+    let held = Held {
+        number: number,
+        block: block,
+    };
+    Reply {
+        station: stands::moved_to(s, Place::Sending(held)),
+        sent: block,
+        printed: mode_a::SILENCE,
+        taken: taken,
+    }
+}
+
+// End is taken under the number: ααα is sent, once so far.
+fn ends(s: Station, number: Number) -> Reply
+    ensures { λ r. ⌜ r ≡ takes s number Offer.End ⌝ }
+{
+    let ended = Ended {
+        number: number,
+        total: 1,
+    };
+    Reply {
+        station: stands::moved_to(s, Place::Ending(ended)),
+        sent: mode_a::ALPHAS,
+        printed: mode_a::SILENCE,
+        taken: true,
+    }
+}
+
+// The offer is taken under the number. A call is not taken: βββ is sent, as where nothing is offered.
+pub fn takes(s: Station, number: Number, offer: Offer) -> Reply
+    ensures { λ r. ⌜ r ≡ takes s number offer ⌝ }
+{
+    match offer {
+        Offer::Text(block) => holds(s, number, block, true),
+        Offer::Over => holds(s, number, OVER, true),
+        Offer::End => ends(s, number),
+        Offer::Nothing => holds(s, number, BETAS, true),
+        Offer::Call(_) => holds(s, number, BETAS, false),
+    }
+}
+
+// The call that is offered is placed: call block 1 goes out in this very step.
+fn called(s: Station, to: Identity) -> Reply
+    ensures { λ r. ⌜ r ≡ called s to ⌝ }
+{
+    let call = Called {
+        to: to,
+        sent: 1,
+        last: Mark::None,
+    };
+    let block = to.block_1();
+    let nothing = mode_a::SILENCE;
+    Reply {
+        station: stands::begun(s, Role::Master, Place::Calling(call)),
+        sent: block,
+        printed: nothing,
+        taken: true,
+    }
+}
+
+// One less, and never below none.
+fn one_less(wait: u8) -> u8
+    ensures { λ r. ⌜ r ≡ wait - 1 ⌝ }
+{
+    if wait == 0 {
+        return 0;
+    }
+    wait - 1
+}
+
+// Stand-by that neither answers nor places a call: one step less is left to wait.
+fn waits_on(s: Station, w: Waiting) -> Reply
+    ensures { λ r. ⌜ r ≡ waitsOn s w ⌝ }
+{
+    let heard = w.heard;
+    let waiting = Waiting {
+        wait: one_less(w.wait),
+        heard: heard,
+    };
+    stands::sends(
+        stands::moved_to(s, Place::StandBy(waiting)),
+        mode_a::SILENCE,
+    )
+}
+
+// Stand-by that answers no call: a call offered is placed where no step is left to wait.
+pub fn listens(s: Station, w: Waiting, offer: Offer) -> Reply
+    ensures { λ r. ⌜ r ≡ listens s w offer ⌝ }
+{
+    match offer {
+        Offer::Text(_) => waits_on(s, w),
+        Offer::Over => waits_on(s, w),
+        Offer::End => waits_on(s, w),
+        Offer::Nothing => waits_on(s, w),
+        Offer::Call(to) => {
+            if w.wait == 0 {
+                return called(s, to);
+            }
+            waits_on(s, w)
+        }
+    }
+}
