@@ -9,9 +9,11 @@
 #if defined(__GNUC__)
 #define UNLIKELY(x) __builtin_expect(!!(x), 0)
 #define COLD __attribute__((cold, noinline))
+#define APART __attribute__((noinline))
 #else
 #define UNLIKELY(x) (x)
 #define COLD
+#define APART
 #endif
 
 /* --- The code --- */
@@ -482,7 +484,7 @@ COLD static uint32_t without_beta(uint32_t burst)
 
 /* Stand-by: both call blocks in succession are answered; a call is placed where
  * none is left to wait. */
-static step_answer stands_by(struct station *station, uint32_t burst, uint64_t offer)
+APART static step_answer stands_by(struct station *station, uint32_t burst, uint64_t offer)
 {
     unsigned call = own_call(station->own, burst);
 
@@ -503,7 +505,7 @@ static step_answer stands_by(struct station *station, uint32_t burst, uint64_t o
 }
 
 /* Calling: the same control signal twice in succession, CS3, or the next block. */
-static step_answer calls_on(struct station *station, uint32_t burst, uint64_t offer)
+APART static step_answer calls_on(struct station *station, uint32_t burst, uint64_t offer)
 {
     unsigned first = burst & 0xFF;
     unsigned heard = first == WORD_CS1 ? 1 : first == WORD_CS2 ? 2 : 0;

@@ -13,6 +13,12 @@
 #include <stdio.h>
 #include <string.h>
 
+#if defined(__GNUC__)
+#define INLINE __attribute__((always_inline)) static inline
+#else
+#define INLINE static inline
+#endif
+
 enum { SIZE = 8192, SCHEDULE = 4096 };
 
 /* --- The generator and the check-sum --- */
@@ -152,8 +158,8 @@ static void draw_schedule(void)
 
 /* Two stations in turn, the first to begin with; after `anew` steps they are as at
  * the beginning. */
-static inline uint32_t run_pair(uint64_t times, size_t anew, const struct station *first,
-                                uint32_t first_burst, uint32_t sum)
+INLINE uint32_t run_pair(uint64_t times, size_t anew, const struct station *first,
+                         uint32_t first_burst, uint32_t sum)
 {
     struct station stations[2];
     uint32_t on_the_way = 0;
