@@ -43,6 +43,7 @@ use Rattle.mode_a.specs.Step.{sends, holds, takes, called, waitsOn, listens, re
 use Rattle.runs.specs.Places.{isSending, isEnding, isStandBy, isCalling}
 use Rattle.runs.specs.Runs.{start, _▷_, InOrder, taking}
 use Rattle.runs.proofs.RowLaws.{by-sending, by-turning, by-opening, by-ending, by-receiving, by-asking, by-standing}
+use Rattle.runs.proofs.PlaceLaws.{is-standby}
 use Rattle.runs.proofs.StepLaws.{Answers as Answered, answers, oneMore, by-repeat, by-take, by-accept, by-listen, standby-answers, standby-listens, lost-stays}
 use Rattle.circuit.specs.Circuit.{Event, heard, Harmless, Run, nothingYet, Circuit, said, placesCall, blockOf, takenIf, confirmedBy, acceptedBy, answeredBy, goesOn, next, after, AllHarmless, NoCallPlaced}
 use Rattle.circuit.specs.Starts.{CallPlaced, Begins, with-block, with-end, CallCompleted, PlacingLeaves, LeavesCompleted}
@@ -133,6 +134,11 @@ data Callee (s : Station) : Words → Type 0 where
   answering : Answering s → Callee s (asksFor One)
   lost : s .place ≡ Lost → Callee s silence
 
+callee-calls : {w : Words} (s : Station) → Callee s w → isCalling (s .place) ≡ false
+callee-calls s (standing x p) = ap isCalling p
+callee-calls s (answering z) = ap isCalling (z .at)
+callee-calls s (lost p) = ap isCalling p
+
 record NothingCarried (c : Circuit) : Type 0 where
   from-hearer-is : c .from-hearer ≡ nothingYet
   from-sender-is : c .from-sender ≡ nothingYet
@@ -218,12 +224,7 @@ module _ (i : Identity) (c : Circuit) (e : Event) (h : Harmless e) (r : Reply) (
         r ≡ done (c .hearer) b (e .offer) (if t then Rests 128 silence else Goes (Calling (record { to = a .called .to; sent = a .called .sent + 1; last = m })) (nextBlock (a .called .to) (a .called .sent))) →
         taking (c .hearer .place) (firstOf (b .0)) ≡ false → Result
     unfolding done
-    on k m true j f = failed (ap (λ (r : Reply). r .station .place) j) (not-calling k)
-      where
-        not-calling : {w : Words} → Callee (c .sender) w → isCalling (c .sender .place) ≡ false
-        not-calling (standing x p) = ap isCalling p
-        not-calling (answering z) = ap isCalling (z .at)
-        not-calling (lost p) = ap isCalling p
+    on k m true j f = failed (ap (λ (r : Reply). r .station .place) j) (callee-calls (c .sender) k)
     on k m false j f =
         let g = call-no-block (a .called .to) (a .called .sent) in
         calls-on (hears-call k (record { called = _; at = ap (λ (r : Reply). r .station .place) j; to-is = a .to-is; role-is = ap (λ (r : Reply). r .station .role) j ∙ a .role-is; case-is = ap (λ (r : Reply). r .station .case) j ∙ a .case-is; plus-is = ap (λ (r : Reply). r .station .plus) j ∙ a .plus-is }) (ap (λ (r : Reply). isBlock (r .sent)) j ∙ g .0) (ap (λ (r : Reply). isWords (r .sent) ααα) j ∙ g .1) (still-none c (e .offer) b r n (rw f, rw (a .at), rw (a .at), ap (λ (r : Reply). r .printed) j)))
@@ -309,22 +310,11 @@ in-call i c e h q (inl y) = go (said c e) refl y
 
 calls-of : (i : Identity) (c : Circuit) → CallPlaced i c → InCall i c
 unfolding isBlock isWords mayHold trafficOf meaningOf
-calls-of i c y = go (c .hearer .place) refl (y .hearer-at)
+calls-of i c y = let w = is-standby (c .hearer .place) (y .hearer-at) in begins-call (w .0) (w .1)
   where
     begins-call : (x : Waiting) → c .hearer .place ≡ StandBy x → InCall i c
     begins-call x p =
         hears-call (standing x p) (record { called = _; at = ap (λ (s : Station). s .place) (y .sender-is); to-is = refl; role-is = ap (λ (s : Station). s .role) (y .sender-is); case-is = ap (λ (s : Station). s .case) (y .sender-is); plus-is = ap (λ (s : Station). s .plus) (y .sender-is) }) (ap isBlock (y .burst-is) ∙ and-false (mayHold (i .0))) (ap (λ (w : Words). isWords w ααα) (y .burst-is) ∙ and-false (eqb (i .0) alpha)) (record { from-hearer-is = y .none-from-hearer; from-sender-is = y .none-from-sender })
-
-    go : (p : Place) → c .hearer .place ≡ p → isStandBy p ≡ true → InCall i c
-    go (StandBy x) p s = begins-call x p
-    go (Sending h) p s = absurd (true≢false (sym s))
-    go (Turning n) p s = absurd (true≢false (sym s))
-    go Opening p s = absurd (true≢false (sym s))
-    go (Ending d) p s = absurd (true≢false (sym s))
-    go (Receiving n) p s = absurd (true≢false (sym s))
-    go Asking p s = absurd (true≢false (sym s))
-    go Lost p s = absurd (true≢false (sym s))
-    go (Calling d) p s = absurd (true≢false (sym s))
 
 in-call-run : (i : Identity) (c : Circuit) → CallPlaced i c → (run : Run) → AllHarmless run → NoCallPlaced c run → InCall i (after c run) ⊎ NoneCalling (after c run)
 unfolding after AllHarmless NoCallPlaced
@@ -339,11 +329,6 @@ callee-sends : {w : Words} (s : Station) → Callee s w → Sends (s .place) ≡
 callee-sends s (standing x p) = ap Sends p
 callee-sends s (answering z) = ap Sends (z .at)
 callee-sends s (lost p) = ap Sends p
-
-callee-calls : {w : Words} (s : Station) → Callee s w → isCalling (s .place) ≡ false
-callee-calls s (standing x p) = ap isCalling p
-callee-calls s (answering z) = ap isCalling (z .at)
-callee-calls s (lost p) = ap isCalling p
 
 leaves-by : (i : Identity) (c : Circuit) (e : Event) → Harmless e → InCall i c ⊎ NoneCalling c → isCalling (c .hearer .place) ≡ true → Sends (next c e .sender .place) ≡ true → CallCompleted (next c e) × (next c e .sender .other ≡ Four i)
 leaves-by i c e h (inr y) p q = absurd (true≢false (sym p ∙ y .hearer-not))
@@ -378,7 +363,7 @@ placed-by i c b o r w p j y t = go (bothHeard (w .heard) (callOf (c .hearer .own
         go-on false z = absurd (true≢false (sym t ∙ ap (λ (r : Reply). r .taken) z))
 
 pub placing-leaves : PlacingLeaves
-placing-leaves i c e r h s k f g j is t = subst (CallPlaced i) (sym (ap (goesOn c e) is)) (go (c .hearer .place) refl h)
+placing-leaves i c e r h s k f g j is t = subst (CallPlaced i) (sym (ap (goesOn c e) is)) (let w = is-standby (c .hearer .place) h in by-place (w .0) (w .1))
   where
     by-place : (w : Waiting) → c .hearer .place ≡ StandBy w → CallPlaced i (answeredBy c (e .offer) (heard e (c .burst)) r)
     by-place w p =
@@ -392,14 +377,3 @@ placing-leaves i c e r h s k f g j is t = subst (CallPlaced i) (sym (ap (goesOn 
           none-from-hearer = rw (g, p, z);
           none-from-sender = rw (f, p);
         }
-
-    go : (q : Place) → c .hearer .place ≡ q → isStandBy q ≡ true → CallPlaced i (answeredBy c (e .offer) (heard e (c .burst)) r)
-    go (StandBy w) p s = by-place w p
-    go (Sending x) p s = absurd (true≢false (sym s))
-    go (Turning n) p s = absurd (true≢false (sym s))
-    go Opening p s = absurd (true≢false (sym s))
-    go (Ending d) p s = absurd (true≢false (sym s))
-    go (Receiving n) p s = absurd (true≢false (sym s))
-    go Asking p s = absurd (true≢false (sym s))
-    go Lost p s = absurd (true≢false (sym s))
-    go (Calling d) p s = absurd (true≢false (sym s))

@@ -27,10 +27,10 @@ use Rattle.mode_a.specs.declared.Waiting.{Waiting}
 use Rattle.mode_a.specs.Heard.{First, Cs, Cs3, Rq, Else, firstOf, callOf}
 use Rattle.mode_a.specs.Rows.{bothHeard}
 use Rattle.runs.specs.Places.{isSending, isOpening, isStandBy}
-use Rattle.runs.specs.Runs.{start, _▷_, isCall, taking}
-use Rattle.runs.proofs.PlaceLaws.{places-apart}
+use Rattle.runs.specs.Runs.{start, _▷_, isCall, taking, isTaken}
+use Rattle.runs.proofs.PlaceLaws.{places-apart, is-standby}
 use Rattle.runs.proofs.StepLaws.{Answers, answers, by-listen, standby-answers, standby-listens}
-use Rattle.circuit.specs.Circuit.{Event, heard, Harmless, Run, traffic, signalsIn, Direction, nothingYet, Circuit, fresh, said, isTaken, placesCall, NoCallPlaced, confirmedBy, acceptedBy, answeredBy, goesOn, next, after, AllHarmless}
+use Rattle.circuit.specs.Circuit.{Event, heard, Harmless, Run, traffic, signalsIn, Direction, nothingYet, Circuit, fresh, said, placesCall, NoCallPlaced, confirmedBy, acceptedBy, answeredBy, goesOn, next, after, AllHarmless}
 use Rattle.circuit.specs.Starts.{CallPlaced, CallCompleted, Begins, with-block, with-end, Starts, both-fresh, placed, completed}
 use Rattle.circuit.specs.Demand.{Carried, inHand, Kept}
 use Rattle.circuit.proofs.DamageLaws.{Mangled, mangled, mangled-silence, FirstIs, first-heard}
@@ -180,30 +180,20 @@ unfolding signalsIn
 block-told b d e = rw e (record { taken-is = refl; accepted-is = refl; printed-is = refl })
 
 linked-placed : (i : Identity) (c : Circuit) → CallPlaced i c → Linked c
-linked-placed i c y = go (c .hearer .place) refl (y .hearer-at)
-  where
-    go : (p : Place) → c .hearer .place ≡ p → isStandBy p ≡ true → Linked c
-    go (StandBy x) e s =
-        record {
-          hearer-at = _;
-          sender-at = _;
-          would-say = _;
-          owed-hearer = _;
-          owed-sender = _;
-          link = c1-any {x = x};
-          hears = here e;
-          says = aloud (ap (λ (s : Station). s .place) (y .sender-is)) refl;
-          told-hearer = none-told (c .from-hearer) (y .none-from-hearer);
-          told-sender = none-told (c .from-sender) (y .none-from-sender);
-        }
-    go (Sending h) e s = absurd (true≢false (sym s))
-    go (Turning n) e s = absurd (true≢false (sym s))
-    go Opening e s = absurd (true≢false (sym s))
-    go (Ending d) e s = absurd (true≢false (sym s))
-    go (Receiving n) e s = absurd (true≢false (sym s))
-    go Asking e s = absurd (true≢false (sym s))
-    go Lost e s = absurd (true≢false (sym s))
-    go (Calling d) e s = absurd (true≢false (sym s))
+linked-placed i c y =
+    let w = is-standby (c .hearer .place) (y .hearer-at) in
+    record {
+      hearer-at = _;
+      sender-at = _;
+      would-say = _;
+      owed-hearer = _;
+      owed-sender = _;
+      link = c1-any {x = w .0};
+      hears = here (w .1);
+      says = aloud (ap (λ (s : Station). s .place) (y .sender-is)) refl;
+      told-hearer = none-told (c .from-hearer) (y .none-from-hearer);
+      told-sender = none-told (c .from-sender) (y .none-from-sender);
+    }
 
 linked-completed : (c : Circuit) → CallCompleted c → Linked c
 linked-completed c y = go (y .begins)

@@ -1,9 +1,9 @@
 -- 01, How the promises are judged: a fresh master and a fresh slave of mode A, no third sender: every run of the two.  R-094, R-172
 -- And 02, T-02: two stations of which one has called the other.
 --
--- "its first burst is CS1": the slave's CS1 is on the way when the run of fresh stations starts; after a call the master's burst is. Bursts alternate, and each is heard once: the
--- station that hears answers, and the other hears that next. An event is what happens to the burst on the way, word by word,
--- and the offer of the station that hears it.
+-- "its first burst is CS1": of fresh stations the slave's CS1 is on the way when the run starts; after a call the master's burst
+-- is. Bursts alternate, and each is heard once: the station that hears answers, and the other hears that next. An event is what
+-- happens to the burst on the way, word by word, and the offer of the station that hears it.
 --
 -- Of each direction four lists are read off the steps: the blocks taken from the offers of the one, and the blocks accepted by
 -- the other, the signals it printed, and the blocks that the one counts as confirmed. No station keeps any of them.
@@ -28,7 +28,7 @@ use Rattle.mode_a.specs.Heard.{First, firstOf, heardOf}
 use Rattle.mode_a.specs.Over.{cross, query}
 use Rattle.mode_a.specs.Step.{stepping}
 use Rattle.runs.specs.Places.{isSending, isStandBy, atSending}
-use Rattle.runs.specs.Runs.{RunOf, start, _▷_, confirming, accepting, taking}
+use Rattle.runs.specs.Runs.{RunOf, start, _▷_, isTaken, confirming, accepting, taking}
 
 pub record Event : Type 0 where
   pub first : Damage
@@ -166,10 +166,6 @@ AllHarmless (run ▷ e) = AllHarmless run × Harmless e
 
 -- "A run of demand 3 ends where a station at Stand-by places a call, of this kind or a later one" (02, T-02): such an event is no step of
 -- a run. What a station at Stand-by takes is a call.  R-194
-abbrev pub isTaken : Answer Reply → Bool
-isTaken (answered r) = r .taken
-isTaken (refused n v) = false
-
 abbrev pub placesCall : Circuit → Event → Bool
 placesCall c e = isStandBy (c .hearer .place) && isTaken (said c e)
 

@@ -13,8 +13,7 @@ use Rattle.mode_a.specs.declared.Mark.{Mark}
 use Rattle.mode_a.specs.declared.Identity.{Identity}
 use Rattle.mode_a.specs.declared.Words.{Words}
 use Rattle.mode_a.specs.declared.Waiting.{Waiting}
-use Rattle.mode_a.specs.declared.Place.{Place}
-use Rattle.mode_a.specs.declared.Place.the-variants.{Sending, Turning, Opening, Ending, Receiving, Asking, StandBy, Lost, Calling}
+use Rattle.mode_a.specs.declared.Place.the-variants.{Receiving, StandBy}
 use Rattle.mode_a.specs.declared.Offer.{Offer}
 use Rattle.mode_a.specs.declared.Station.{Station}
 use Rattle.mode_a.specs.declared.Reply.{Reply}
@@ -25,6 +24,7 @@ use Rattle.mode_a.specs.Rows.{bothHeard}
 use Rattle.mode_a.specs.Step.{sends, begun, called, waitsOn, stepping}
 use Rattle.runs.specs.Runs.{isCall}
 use Rattle.runs.specs.Places.{isStandBy}
+use Rattle.runs.proofs.PlaceLaws.{is-standby}
 use Rattle.runs.proofs.StepLaws.{Answers, answers, by-listen, standby-answers, standby-listens}
 
 -- a burst that is neither of the own call blocks completes no call
@@ -33,21 +33,10 @@ no-block Mark.None = refl
 no-block Mark.One = refl
 no-block Mark.Two = refl
 
-standing : (p : Place) → isStandBy p ≡ true → (w : Waiting) × (p ≡ StandBy w)
-standing (Sending h) e = absurd (true≢false (sym e))
-standing (Turning n) e = absurd (true≢false (sym e))
-standing Opening e = absurd (true≢false (sym e))
-standing (Ending x) e = absurd (true≢false (sym e))
-standing (Receiving n) e = absurd (true≢false (sym e))
-standing Asking e = absurd (true≢false (sym e))
-standing (StandBy w) e = (w, refl)
-standing Lost e = absurd (true≢false (sym e))
-standing (Calling c) e = absurd (true≢false (sym e))
-
 module _ (s : Station) (b : Words) (o : Offer) (r : Reply) (e : stepping s b o ≡ answered r) (here : isStandBy (s .place) ≡ true) where
   -- it answers a call, or places one, or waits on
   by-standby : (P : Reply → Type 0) → ((m : Mark) → bothHeard m (callOf (s .own .four) b) ≡ true → P (sends (begun s Slave (Receiving One)) (asksFor One))) → ((i : Identity) → o ≡ Offer.Call i → P (called s i)) → ((w : Waiting) → P (waitsOn s w)) → P r
-  by-standby P answer place wait = go (standing (s .place) here)
+  by-standby P answer place wait = go (is-standby (s .place) here)
     where
       go : (w : Waiting) × (s .place ≡ StandBy w) → P r
       go x = tests (bothHeard (x .0 .heard) (callOf (s .own .four) b)) refl

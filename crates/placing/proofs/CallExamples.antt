@@ -38,8 +38,8 @@ use Rattle.mode_a.specs.Station.{words, single, silence, resting, freshAt}
 use Rattle.mode_a.specs.Heard.{firstOf, isWords, callOf, heardOf}
 use Rattle.mode_a.specs.Step.{done, sound, stepping}
 use Rattle.runs.specs.Places.{isStandBy}
-use Rattle.runs.specs.Runs.{Event, Run, start, _▷_, said, next, after}
-use Rattle.placing.specs.Runs.{callsInARow, takenIn, oneStep, stepsIn, StaysAtStandBy}
+use Rattle.runs.specs.Runs.{Event, Run, start, _▷_, said, next, after, isTaken}
+use Rattle.placing.specs.Runs.{callsInARow, oneStep, stepsIn, StaysAtStandBy}
 use Rattle.placing.specs.StandBy.{Waits, BothBlocks}
 use Rattle.placing.proofs.StepLaws.{atStandBy}
 use Rattle.placing.proofs.CallingLaws.{at-most-128-in-turn}
@@ -119,7 +119,7 @@ abbrev sentIn : Answer Reply → Words
 sentIn (answered r) = r .sent
 sentIn (refused n v) = silence
 
-pub blocks-in-turn : (sentIn (said set offers) ≡ callBlock1 coast) × (sentIn (said (calledSo 1) quiet) ≡ callBlock2 coast) × (sentIn (said (calledSo 2) quiet) ≡ callBlock1 coast)
+pub blocks-in-turn : (sentIn (said set offers) ≡ words 60 102 46) × (sentIn (said (calledSo 1) quiet) ≡ words 29 43 102) × (sentIn (said (calledSo 2) quiet) ≡ words 60 102 46)
 unfolding stepping sound done firstNot heardOf firstOf isWords callOf isCallable isIdentity nextBlock
 blocks-in-turn = (refl, refl, refl)
 
@@ -177,13 +177,13 @@ unfolding stepping sound done firstNot heardOf firstOf isWords callOf isCallable
 of-that-wait n l = waits-128 (calledSo 1) (hears (single cs3)) refl refl (times n offers start) (stays-on n l)
 
 -- in the 128th step the call is not taken, and in the 129th it is
-pub still-untaken : takenIn (said (after (waitsSo 128) (times 127 offers start)) offers) ≡ false
+pub still-untaken : isTaken (said (after (waitsSo 128) (times 127 offers start)) offers) ≡ false
 unfolding stepping sound done firstNot heardOf isWords callOf isCallable isIdentity
-still-untaken = ap (λ (s : Station). takenIn (said s offers)) (waits-on 127 (omega arith))
+still-untaken = ap (λ (s : Station). isTaken (said s offers)) (waits-on 127 (omega arith))
 
-pub taken-at-last : let s = after (waitsSo 128) (times 128 offers start) in (takenIn (said s offers) ≡ true) × (next s offers ≡ calledSo 1)
+pub taken-at-last : let s = after (waitsSo 128) (times 128 offers start) in (isTaken (said s offers) ≡ true) × (next s offers ≡ calledSo 1)
 unfolding stepping sound done firstNot heardOf isWords callOf isCallable isIdentity
-taken-at-last = let e = waits-on 128 (omega arith) in (ap (λ (s : Station). takenIn (said s offers)) e, ap (λ (s : Station). next s offers) e)
+taken-at-last = let e = waits-on 128 (omega arith) in (ap (λ (s : Station). isTaken (said s offers)) e, ap (λ (s : Station). next s offers) e)
 
 -- "both blocks in succession", in either order, and the same one twice before the other
 abbrev pub block1 : Event

@@ -33,13 +33,13 @@ use Rattle.mode_a.specs.Rows.{callsOn as callsOnOr, calling, rowOf}
 use Rattle.mode_a.specs.Step.{sends, takes, rested, reached, done, stepping, stationAfter}
 use Rattle.mode_a.proofs.HeardLaws.{Says, first-says, first-cs1, first-cs2, first-cs3}
 use Rattle.runs.specs.Places.{isStandBy, isCalling}
-use Rattle.runs.specs.Runs.{Event, Run, start, _▷_, said, after}
+use Rattle.runs.specs.Runs.{Event, Run, start, _▷_, said, after, isCall}
 use Rattle.runs.proofs.RowLaws.{markIn, by-calling}
 use Rattle.runs.proofs.StepLaws.{answers, by-take, keeps}
 use Rattle.placing.specs.Runs.{isCallBurst, callsOn, callsInARow, blockNo, callsTo, lastCalled, Step, stepOr, lastStep, WasHeard}
 use Rattle.placing.specs.Calling.{InTurn, Uncounted, Twice, inTraffic, CallEnds}
 use Rattle.placing.proofs.BurstLaws.{call-1, call-next, next-block}
-use Rattle.placing.proofs.StepLaws.{atCalling, isCall, Does, elsewhere, rests, waits, places, calls-on, does}
+use Rattle.placing.proofs.StepLaws.{atCalling, Does, elsewhere, rests, waits, places, calls-on, does}
 
 -- the number of call bursts that a place keeps
 abbrev sentOf : Place → ℕ
@@ -77,7 +77,7 @@ module _ (s : Station) (b : Words) (o : Offer) (r : Reply) (k : ℕ) (l : Option
   kept-step : Does s b o r → Kept (r .station .place) (callsOn (answered r) k) (callsTo (answered r) o l)
   unfolding isCallBurst isIdentity
   kept-step (elsewhere x y c t) = rw c (outside (r .station .place) _ y)
-  kept-step (rests x p c t) = rw c (outside (r .station .place) _ (ap isCalling p))
+  kept-step (rests x (p, q) c t) = rw c (outside (r .station .place) _ (ap isCalling p))
   kept-step (waits w e q) = rw q (outside _ _ refl)
   kept-step (places w i e z y q) =
       let h : k ≡ 0 = sym (kept .is) ∙ ap sentOf e in
@@ -99,7 +99,7 @@ module _ (s : Station) (b : Words) (o : Offer) (r : Reply) (k : ℕ) (l : Option
   in-turn-step : Does s b o r → isCallBurst (r .sent) ≡ true → (i : Identity) × (callsTo (answered r) o l ≡ some i) × (r .sent ≡ blockNo i (callsOn (answered r) k))
   unfolding isCallBurst isIdentity
   in-turn-step (elsewhere x y c t) f = absurd (true≢false (sym f ∙ c))
-  in-turn-step (rests x p c t) f = absurd (true≢false (sym f ∙ c))
+  in-turn-step (rests x (p, q) c t) f = absurd (true≢false (sym f ∙ c))
   in-turn-step (waits w e q) f = absurd (true≢false (sym f ∙ ap (λ (r : Reply). isCallBurst (r .sent)) q))
   in-turn-step (places w i e z y q) f =
       let h : 0 ≡ k = sym (ap sentOf e) ∙ kept .is in
@@ -110,7 +110,7 @@ module _ (s : Station) (b : Words) (o : Offer) (r : Reply) (k : ℕ) (l : Option
 
   begins-step : Does s b o r → (i : Identity) → o ≡ Offer.Call i → r .taken ≡ true → (k ≡ 0) × (r .sent ≡ callBlock1 i)
   begins-step (elsewhere x y c t) i e f = absurd (false≢true (sym t ∙ rw (e, f)))
-  begins-step (rests x p c t) i e f = absurd (false≢true (sym t ∙ rw (e, f)))
+  begins-step (rests x (p, q) c t) i e f = absurd (false≢true (sym t ∙ rw (e, f)))
   begins-step (waits w e q) i d f = absurd (true≢false (sym f ∙ ap (λ (r : Reply). r .taken) q))
   begins-step (places w j e z y q) i d f =
       let u : j ≡ i = cc in
@@ -127,7 +127,7 @@ module _ (s : Station) (b : Words) (o : Offer) (r : Reply) (k : ℕ) (l : Option
 -- the count is 0 at Calling
 count-step : (s : Station) (b : Words) (o : Offer) (r : Reply) → Does s b o r → isCalling (r .station .place) ≡ true → r .station .count ≡ 0
 count-step s b o r (elsewhere x y c t) k = absurd (true≢false (sym k ∙ y))
-count-step s b o r (rests x p c t) k = absurd (true≢false (sym k ∙ ap isCalling p))
+count-step s b o r (rests x (p, q) c t) k = absurd (true≢false (sym k ∙ ap isCalling p))
 count-step s b o r (waits w e q) k = ap (λ (r : Reply). r .station .count) q
 count-step s b o r (places w i e z y q) k = ap (λ (r : Reply). r .station .count) q
 count-step s b o r (calls-on c e m q) k = ap (λ (r : Reply). r .station .count) q
@@ -239,7 +239,7 @@ lastMark (some x) = if isCalling (x .place) then markIn (firstOf (x .burst .0)) 
 
 mark-step : (s : Station) (b : Words) (o : Offer) (r : Reply) → Does s b o r → (c : Called) → r .station .place ≡ Calling c → c .last ≡ (if isCalling (s .place) then markIn (firstOf (b .0)) else Mark.None)
 mark-step s b o r (elsewhere x y t u) c e = absurd (true≢false (sym (ap isCalling e) ∙ y))
-mark-step s b o r (rests x p t u) c e = absurd (false≢true (sym (ap isCalling p) ∙ ap isCalling e))
+mark-step s b o r (rests x (p, q) t u) c e = absurd (false≢true (sym (ap isCalling p) ∙ ap isCalling e))
 mark-step s b o r (waits w p q) c e = absurd (false≢true (ap (λ (r : Reply). isCalling (r .station .place)) (sym q) ∙ ap isCalling e))
 mark-step s b o r (places w i p z y q) c e =
     ap (atCalling (λ c. c .last) Mark.None) (sym e ∙ ap (λ (r : Reply). r .station .place) q) ∙ rw (ap isCalling p)

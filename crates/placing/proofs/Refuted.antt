@@ -20,8 +20,8 @@ use Rattle.mode_a.specs.Station.{single, noIdentity, freshAt}
 use Rattle.mode_a.specs.Heard.{firstOf, isWords, callOf, heardOf}
 use Rattle.mode_a.specs.Step.{done, sound, stepping}
 use Rattle.runs.specs.Places.{isReceiving, isStandBy, isCalling}
-use Rattle.runs.specs.Runs.{Event, Run, start, _▷_, said, after}
-use Rattle.placing.specs.Runs.{takenIn, stepsIn, StaysAtStandBy}
+use Rattle.runs.specs.Runs.{Event, Run, start, _▷_, said, after, isTaken}
+use Rattle.placing.specs.Runs.{stepsIn, StaysAtStandBy}
 use Rattle.placing.specs.Calling.{inTraffic}
 use Rattle.placing.proofs.CallExamples.{coast, set, hears, quiet, offers, times, waitsSo, stays-on, steps-on, still-untaken, block1, block2}
 
@@ -62,7 +62,7 @@ unfolding stepping sound done firstNot heardOf firstOf isWords callOf isCallable
 no-block-silence-block claim = false≢true (claim start refl)
 
 -- the call failed in the step before: 128 steps to wait, of which 127 are over
-pub no-call-in-the-128th : ((run : Run) → StaysAtStandBy (waitsSo 128) run → stepsIn (waitsSo 128) run ≡ 127 → takenIn (said (after (waitsSo 128) run) offers) ≡ true) → ⊥
+pub no-call-in-the-128th : ((run : Run) → StaysAtStandBy (waitsSo 128) run → stepsIn (waitsSo 128) run ≡ 127 → isTaken (said (after (waitsSo 128) run) offers) ≡ true) → ⊥
 no-call-in-the-128th claim = false≢true (sym still-untaken ∙ claim (times 127 offers start) (stays-on 127 (omega arith)) (steps-on 127 (omega arith)))
 
 -- called by what it has for an identity

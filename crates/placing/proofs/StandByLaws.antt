@@ -28,13 +28,14 @@ use Rattle.mode_a.specs.Heard.{callOf}
 use Rattle.mode_a.specs.Rows.{bothHeard}
 use Rattle.mode_a.specs.Step.{called, waitsOn, listens, stepping, stationAfter}
 use Rattle.runs.specs.Places.{isReceiving, isStandBy, isLost, isCalling}
-use Rattle.runs.specs.Runs.{Event, Run, start, _▷_, said, next, after}
+use Rattle.runs.specs.Runs.{Event, Run, start, _▷_, said, next, after, isTaken, isCall}
 use Rattle.runs.proofs.PlaceLaws.{one-number}
+use Rattle.runs.proofs.PlaceLaws.{is-standby}
 use Rattle.runs.proofs.StepLaws.{answers, standby-answers, standby-listens, keeps, own-lasts}
-use Rattle.placing.specs.Runs.{takenIn, oneStep, stepsIn, StaysAtStandBy, Step, stepOr, lastStep}
-use Rattle.placing.specs.StandBy.{AnswersCall, PlacesCall, OneOfThree, Stands, Waits, Successive, BothBlocks, NoneHeard, HearsCall}
+use Rattle.placing.specs.Runs.{oneStep, stepsIn, StaysAtStandBy, Step, stepOr, lastStep}
+use Rattle.placing.specs.StandBy.{AnswersCall, PlacesCall, OneOfThree, Stands, Waits, Successive, BothBlocks, NoneHeard, HearsCall, Enters}
 use Rattle.placing.proofs.BurstLaws.{Says, call-says, hears-1, hears-2}
-use Rattle.placing.proofs.StepLaws.{atStandBy, is-standby, isCall, Does, elsewhere, rests, waits, places, calls-on, does}
+use Rattle.placing.proofs.StepLaws.{atStandBy, Does, elsewhere, rests, waits, places, calls-on, does}
 
 -- a step from Stand-by
 module _ (s : Station) (b : Words) (o : Offer) (r : Reply) (answer : stepping s b o ≡ answered r) (w : Waiting) (here : s .place ≡ StandBy w) where
@@ -42,7 +43,7 @@ module _ (s : Station) (b : Words) (o : Offer) (r : Reply) (answer : stepping s 
   both = bothHeard (w .heard) (callOf (s .own .four) b)
 
   answered-call : both ≡ true → AnswersCall r
-  answered-call t = rw (standby-answers s b o r (answers s b o r answer) w here t) (record { slave = refl; awaits-1 = refl; sends-cs1 = refl; prints-nothing = refl; takes-nothing = refl })
+  answered-call t = rw (standby-answers s b o r (answers s b o r answer) w here t) (record { slave = refl; awaits-1 = refl; sends-cs1 = refl; prints-nothing = refl; takes-nothing = refl; nobody = refl; letters = (refl, refl, refl) })
 
   abbrev Listened : Reply → Type 0
   Listened r = Stands w o r × (isReceiving (r .station .place) ≡ false)
@@ -50,7 +51,7 @@ module _ (s : Station) (b : Words) (o : Offer) (r : Reply) (answer : stepping s 
   placed : (i : Identity) → o ≡ Offer.Call i → w .wait ≡ 0 → Listened (called s i)
   placed i z n = (
     record {
-      one-of-three = OneOfThree.places i z n (record { master = refl; calls = refl; sends-block-1 = refl; prints-nothing = refl; takes-it = refl });
+      one-of-three = OneOfThree.places i z n (record { master = refl; calls = refl; sends-block-1 = refl; prints-nothing = refl; takes-it = refl; nobody = refl; letters = (refl, refl, refl) });
       places-exactly = (λ x. ((i, z), refl, n), λ x. refl);
       never-lost = refl;
     },
@@ -107,7 +108,7 @@ module _ (s : Station) (b : Words) (o : Offer) (r : Reply) (answer : stepping s 
 
 -- no call is placed while steps are left to wait, and one is where none is left
 module _ (s : Station) (a : Event) (w : Waiting) (here : s .place ≡ StandBy w) where
-  places-none : (w .wait ≡ 0 → ⊥) → (isCalling (next s a .place) ≡ false) × (takenIn (said s a) ≡ false)
+  places-none : (w .wait ≡ 0 → ⊥) → (isCalling (next s a .place) ≡ false) × (isTaken (said s a) ≡ false)
   places-none left = go (said s a) refl
     where
       by-three : (r : Reply) → OneOfThree w (a .offer) r → (isCalling (r .station .place) ≡ false) × (r .taken ≡ false)
@@ -115,7 +116,7 @@ module _ (s : Station) (a : Event) (w : Waiting) (here : s .place ≡ StandBy w)
       by-three r (OneOfThree.places i z n x) = absurd (left n)
       by-three r (OneOfThree.waits x) = (ap isCalling (x .stays .1), x .takes-nothing)
 
-      go : (x : Answer Reply) → said s a ≡ x → (isCalling (stationAfter s x .place) ≡ false) × (takenIn x ≡ false)
+      go : (x : Answer Reply) → said s a ≡ x → (isCalling (stationAfter s x .place) ≡ false) × (isTaken x ≡ false)
       go (answered r) p = by-three r (stands-exactly s (a .burst) (a .offer) r p w here .one-of-three)
       go (refused n v) p = (ap isCalling here, refl)
 
@@ -142,7 +143,7 @@ module _ (s : Station) (b : Words) (o : Offer) (r : Reply) where
   -- a call that fails leaves 128 steps to wait
   failed : Does s b o r → isCalling (s .place) ≡ true → isStandBy (r .station .place) ≡ true → waitIn (r .station .place) ≡ 128
   failed (elsewhere x y c t) k h = absurd (true≢false (sym h ∙ x))
-  failed (rests x p c t) k h = ap waitIn p ∙ rw k
+  failed (rests x (p, q) c t) k h = ap waitIn p ∙ rw k
   failed (waits w e q) k h = absurd (true≢false (sym k ∙ ap isCalling e))
   failed (places w i e z y q) k h = absurd (true≢false (sym k ∙ ap isCalling e))
   failed (calls-on c e m q) k h = absurd (true≢false (sym h ∙ ap (λ (r : Reply). isStandBy (r .station .place)) q))
@@ -150,7 +151,7 @@ module _ (s : Station) (b : Words) (o : Offer) (r : Reply) where
   -- and each step there one less
   one-less : Does s b o r → isStandBy (s .place) ≡ true → isStandBy (r .station .place) ≡ true → waitIn (r .station .place) ≡ waitIn (s .place) - 1
   one-less (elsewhere x y c t) k h = absurd (true≢false (sym h ∙ x))
-  one-less (rests x p c t) k h = absurd (true≢false (sym k ∙ x))
+  one-less (rests x (p, q) c t) k h = absurd (true≢false (sym k ∙ x))
   one-less (waits w e q) k h = ap (λ (r : Reply). waitIn (r .station .place)) q ∙ ap (λ (p : Place). waitIn p - 1) (sym e)
   one-less (places w i e z y q) k h = absurd (true≢false (sym h ∙ ap (λ (r : Reply). isStandBy (r .station .place)) q))
   one-less (calls-on c e m q) k h = absurd (true≢false (sym h ∙ ap (λ (r : Reply). isStandBy (r .station .place)) q))
@@ -158,7 +159,7 @@ module _ (s : Station) (b : Words) (o : Offer) (r : Reply) where
   -- what it keeps is which call block it has just heard there
   mark-step : Does s b o r → isStandBy (r .station .place) ≡ true → heardIn (r .station .place) ≡ (if isStandBy (s .place) then callOf (s .own .four) b else Mark.None)
   mark-step (elsewhere x y c t) h = absurd (true≢false (sym h ∙ x))
-  mark-step (rests x p c t) h = ap heardIn p ∙ rw x
+  mark-step (rests x (p, q) c t) h = ap heardIn p ∙ rw x
   mark-step (waits w e q) h = ap (λ (r : Reply). heardIn (r .station .place)) q ∙ rw (ap isStandBy e)
   mark-step (places w i e z y q) h = absurd (true≢false (sym h ∙ ap (λ (r : Reply). isStandBy (r .station .place)) q))
   mark-step (calls-on c e m q) h = absurd (true≢false (sym h ∙ ap (λ (r : Reply). isStandBy (r .station .place)) q))
@@ -268,3 +269,14 @@ module _ (from : Station) (none-heard : NoneHeard from) where
 
 pub hears-call-exactly : (from : Station) → NoneHeard from → (run : Run) (w : Waiting) → after from run .place ≡ StandBy w → (e : Event) (r : Reply) → said (after from run) e ≡ answered r → HearsCall from run e r
 hears-call-exactly from none-heard run w here e r answer = heard-so from none-heard run w here e r answer
+
+-- entering Stand-by
+pub enters-alone : (s : Station) (b : Words) (o : Offer) (r : Reply) → stepping s b o ≡ answered r → isStandBy (s .place) ≡ false → isStandBy (r .station .place) ≡ true → Enters s r
+enters-alone s b o r answer x h = go (does s b o r answer)
+  where
+    go : Does s b o r → Enters s r
+    go (elsewhere n c d e) = absurd (true≢false (sym h ∙ n))
+    go (rests y (p, q) c t) = record { rests-so = p; alone = q }
+    go (waits w p e) = absurd (true≢false (sym (ap isStandBy p) ∙ x))
+    go (places w i p e f g) = absurd (true≢false (sym (ap isStandBy p) ∙ x))
+    go (calls-on c p l e) = absurd (true≢false (sym h ∙ ap (λ (r : Reply). isStandBy (r .station .place)) e))

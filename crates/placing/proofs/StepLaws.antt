@@ -3,7 +3,7 @@
 --     atCalling, atStandBy, is-standby   what the two places carry
 -- Assumes nothing.
 use mathlib.Core.Path.{_≡_, refl, ap, sym, subst, _∙_}
-use mathlib.Core.Bool.{Bool, true, false, _&&_, and-false, true≢false}
+use mathlib.Core.Bool.{Bool, true, false, _&&_, and-false}
 use Prim.Native.Nat.{_+_}
 use lib.Dec.{leb}
 use Rattle.laws.specs.Choice.{if_then_else_}
@@ -14,6 +14,7 @@ use Rattle.mode_a.specs.declared.Words.{Words}
 use Rattle.mode_a.specs.declared.Identity.{Identity}
 use Rattle.mode_a.specs.declared.Waiting.{Waiting}
 use Rattle.mode_a.specs.declared.Called.{Called}
+use Rattle.mode_a.specs.declared.Peer.the-variants.{Nobody}
 use Rattle.mode_a.specs.declared.Place.{Place}
 use Rattle.mode_a.specs.declared.Place.the-variants.{Sending, Turning, Opening, Ending, Receiving, Asking, StandBy, Lost, Calling}
 use Rattle.mode_a.specs.declared.Offer.{Offer}
@@ -28,7 +29,7 @@ use Rattle.mode_a.specs.Over.{listenedAll}
 use Rattle.mode_a.specs.Rows.{rowOf}
 use Rattle.mode_a.specs.Step.{movedTo, heardAt, trafficIn, called, waitsOn, sends, takes, repeats, reached, accepts, done, soundPlace, stepping}
 use Rattle.runs.specs.Places.{isStandBy, isCalling}
-use Rattle.runs.specs.Runs.{InOrder}
+use Rattle.runs.specs.Runs.{InOrder, isCall}
 use Rattle.runs.proofs.RowLaws.{markIn, by-sending, by-turning, by-opening, by-ending, by-receiving, by-asking, by-standing, by-calling}
 use Rattle.runs.proofs.StepLaws.{Answers, answers, held-block, by-repeat, by-accept, by-listen}
 use Rattle.placing.specs.Runs.{isCallBurst}
@@ -57,27 +58,9 @@ atStandBy f a (StandBy w) = f w
 atStandBy f a Lost = a
 atStandBy f a (Calling c) = a
 
-pub is-standby : (p : Place) → isStandBy p ≡ true → (w : Waiting) × (p ≡ StandBy w)
-is-standby (Sending h) e = absurd (true≢false (sym e))
-is-standby (Turning n) e = absurd (true≢false (sym e))
-is-standby Opening e = absurd (true≢false (sym e))
-is-standby (Ending x) e = absurd (true≢false (sym e))
-is-standby (Receiving n) e = absurd (true≢false (sym e))
-is-standby Asking e = absurd (true≢false (sym e))
-is-standby (StandBy w) e = (w, refl)
-is-standby Lost e = absurd (true≢false (sym e))
-is-standby (Calling c) e = absurd (true≢false (sym e))
-
-abbrev pub isCall : Offer → Bool
-isCall (Offer.Text w) = false
-isCall Offer.Over = false
-isCall Offer.End = false
-isCall Offer.Nothing = false
-isCall (Offer.Call i) = true
-
 pub data Does (s : Station) (b : Words) (o : Offer) (r : Reply) : Type 0 where
   elsewhere : isStandBy (r .station .place) ≡ false → isCalling (r .station .place) ≡ false → isCallBurst (r .sent) ≡ false → isCall o && r .taken ≡ false → Does s b o r
-  rests : isStandBy (s .place) ≡ false → r .station .place ≡ resting (if isCalling (s .place) then 128 else 0) → isCallBurst (r .sent) ≡ false → isCall o && r .taken ≡ false → Does s b o r
+  rests : isStandBy (s .place) ≡ false → (r .station .place ≡ resting (if isCalling (s .place) then 128 else 0)) × (r .station .other ≡ Nobody) → isCallBurst (r .sent) ≡ false → isCall o && r .taken ≡ false → Does s b o r
   waits : (w : Waiting) → s .place ≡ StandBy w → r ≡ waitsOn s (record { wait = w .wait; heard = callOf (s .own .four) b }) → Does s b o r
   places : (w : Waiting) (i : Identity) → s .place ≡ StandBy w → o ≡ Offer.Call i → isCallable i ≡ true → r ≡ called s i → Does s b o r
   calls-on : (c : Called) → s .place ≡ Calling c → leb 128 (c .sent) ≡ false → r ≡ sends (movedTo s (Calling (record { to = c .to; sent = c .sent + 1; last = markIn (firstOf (b .0)) }))) (nextBlock (c .to) (c .sent)) → Does s b o r
@@ -118,7 +101,7 @@ module _ (s : Station) (b : Words) (o : Offer) (fine : InOrder o) where
 
   rested-does : (p : Place) → s .place ≡ p → isStandBy p ≡ false → isCalling p ≡ false → (w : Words) → isCallBurst w ≡ false → Row (Rests 0 w)
   unfolding done
-  rested-does p e x y w c = rests (ap isStandBy e ∙ x) (rw (ap isCalling e ∙ y)) c (and-false (isCall o))
+  rested-does p e x y w c = rests (ap isStandBy e ∙ x) (rw (ap isCalling e ∙ y), refl) c (and-false (isCall o))
 
   by-place : (p : Place) → s .place ≡ p → soundPlace p ≡ true → Row (rowOf (s .role) p (heardOf (s .own) b))
   unfolding done heardOf isCallBurst isIdentity
@@ -136,7 +119,7 @@ module _ (s : Station) (b : Words) (o : Offer) (fine : InOrder o) where
       by-standing Row w (heardOf (s .own) b) (λ y. sent _ _ refl refl refl) (λ y. by-listen (Does s b o) s _ o (λ x z u. places w x e z (subst InOrder z fine) refl) (waits w e refl))
   by-place Lost e i = sent _ _ refl refl refl
   by-place (Calling c) e i =
-      by-calling Row c (firstOf (b .0)) (λ n x y. taken s (reached s (c .to)) b n o fine) (rests (ap isStandBy e) (rw e) refl (and-false (isCall o))) (λ l. calls-on c e l refl)
+      by-calling Row c (firstOf (b .0)) (λ n x y. taken s (reached s (c .to)) b n o fine) (rests (ap isStandBy e) (rw e, refl) refl (and-false (isCall o))) (λ l. calls-on c e l refl)
 
 pub does : (s : Station) (b : Words) (o : Offer) (r : Reply) → stepping s b o ≡ answered r → Does s b o r
 does s b o r e = go (answers s b o r e)

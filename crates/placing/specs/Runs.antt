@@ -4,7 +4,7 @@
 -- A refused event is no step: it is passed over everywhere.
 -- Assumes nothing.
 use mathlib.Core.Path.{_≡_}
-use mathlib.Core.Bool.{Bool, true, false, _&&_, _||_}
+use mathlib.Core.Bool.{Bool, true, _&&_, _||_}
 use mathlib.Core.Option.{Option, none, some}
 use Prim.Native.Nat.{ℕ, suc, _%_}
 use lib.Dec.{eqb}
@@ -50,11 +50,6 @@ callsTo (refused n v) o before = before
 unfoldable pub lastCalled : Station → Run → Option Identity
 lastCalled s start = none
 lastCalled s (run ▷ e) = callsTo (said (after s run) e) (e .offer) (lastCalled s run)
-
--- whether the answer takes the offer
-abbrev pub takenIn : Answer Reply → Bool
-takenIn (answered r) = r .taken
-takenIn (refused n v) = false
 
 -- how many steps a run has
 abbrev pub oneStep : Answer Reply → ℕ → ℕ

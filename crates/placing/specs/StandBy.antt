@@ -8,10 +8,13 @@ use mathlib.Core.Bool.{true, false}
 use mathlib.Core.Logic.{_↔_, _⊎_}
 use mathlib.Core.Option.{Option}
 use Prim.Native.Nat.{_-_, _<_, _≤_}
+use Rattle.laws.specs.Choice.{if_then_else_}
 use Rattle.signals.specs.Numbers.{answered}
 use Rattle.mode_a.specs.declared.Role.the-variants.{Master, Slave}
 use Rattle.mode_a.specs.declared.Number.the-variants.{One}
 use Rattle.mode_a.specs.declared.Words.{Words}
+use Rattle.signals.specs.declared.Case.the-variants.{Letters}
+use Rattle.mode_a.specs.declared.Peer.the-variants.{Nobody}
 use Rattle.mode_a.specs.declared.Mark.{Mark}
 use Rattle.mode_a.specs.declared.Identity.{Identity}
 use Rattle.mode_a.specs.declared.Waiting.{Waiting}
@@ -20,10 +23,10 @@ use Rattle.mode_a.specs.declared.Offer.{Offer}
 use Rattle.mode_a.specs.declared.Station.{Station}
 use Rattle.mode_a.specs.declared.Reply.{Reply}
 use Rattle.mode_a.specs.Calls.{isCallable, callBlock1, callBlock2}
-use Rattle.mode_a.specs.Station.{silence, asksFor}
+use Rattle.mode_a.specs.Station.{silence, asksFor, resting}
 use Rattle.runs.specs.Places.{isReceiving, isStandBy, isLost, isCalling}
-use Rattle.runs.specs.Runs.{Event, Run, said, next, after}
-use Rattle.placing.specs.Runs.{takenIn, stepsIn, Step, lastStep, WasHeard}
+use Rattle.runs.specs.Runs.{Event, Run, said, next, after, isTaken}
+use Rattle.placing.specs.Runs.{stepsIn, Step, lastStep, WasHeard}
 
 -- a call is answered: "The slave answers CS1"
 pub record AnswersCall (r : Reply) : Type 0 where
@@ -32,6 +35,8 @@ pub record AnswersCall (r : Reply) : Type 0 where
   pub sends-cs1 : r .sent ≡ asksFor One
   pub prints-nothing : r .printed ≡ silence
   pub takes-nothing : r .taken ≡ false
+  pub nobody : r .station .other ≡ Nobody
+  pub letters : (r .station .case ≡ Letters) × (r .station .plus ≡ false) × (r .station .count ≡ 0)
 
 -- a call is placed: "the master sends call blocks 1 and 2 in turn", block 1 in this very step
 pub record PlacesCall (i : Identity) (r : Reply) : Type 0 where
@@ -40,6 +45,8 @@ pub record PlacesCall (i : Identity) (r : Reply) : Type 0 where
   pub sends-block-1 : r .sent ≡ callBlock1 i
   pub prints-nothing : r .printed ≡ silence
   pub takes-it : r .taken ≡ true
+  pub nobody : r .station .other ≡ Nobody
+  pub letters : (r .station .case ≡ Letters) × (r .station .plus ≡ false) × (r .station .count ≡ 0)
 
 -- neither: it stays, and one step less is left to wait
 pub record WaitsOn (w : Waiting) (r : Reply) : Type 0 where
@@ -60,10 +67,16 @@ pub record Stands (w : Waiting) (o : Offer) (r : Reply) : Type 0 where
   pub places-exactly : isCalling (r .station .place) ≡ true ↔ ((i : Identity) × (o ≡ Offer.Call i)) × (isReceiving (r .station .place) ≡ false) × (w .wait ≡ 0)
   pub never-lost : isLost (r .station .place) ≡ false
 
+-- a step that comes to Stand-by from another place: 128 steps to wait from Calling and none from elsewhere, none of its own call blocks
+-- heard, and nobody at the other end
+pub record Enters (s : Station) (r : Reply) : Type 0 where
+  pub rests-so : r .station .place ≡ resting (if isCalling (s .place) then 128 else 0)
+  pub alone : r .station .other ≡ Nobody
+
 -- "waits 128 cycles in stand-by": a call fails at the event e, and after each event of the run the station is at Stand-by
 pub record Waits (s : Station) (e : Event) (run : Run) : Type 0 where
   -- in the 128 steps after that one no event places a call, or takes any other offer
-  pub waits : stepsIn (next s e) run < 128 → (a : Event) → (isCalling (next (after (next s e) run) a .place) ≡ false) × (takenIn (said (after (next s e) run) a) ≡ false)
+  pub waits : stepsIn (next s e) run < 128 → (a : Event) → (isCalling (next (after (next s e) run) a .place) ≡ false) × (isTaken (said (after (next s e) run) a) ≡ false)
   -- in the 129th, and ever after, a call that is offered is placed, unless one is answered
   pub calls-again : 128 ≤ stepsIn (next s e) run → (a : Event) (i : Identity) (r : Reply) → a .offer ≡ Offer.Call i → said (after (next s e) run) a ≡ answered r → isReceiving (r .station .place) ≡ false → PlacesCall i r
 

@@ -2,14 +2,13 @@
 --     takes-by-row        the test of a place and a first word is that of the row
 --     taken-as-reported   of every offer but a call, a block is taken exactly where the answer says so and the station is at Sending
 -- Assumes nothing.
-use mathlib.Core.Path.{_≡_, refl, ap, sym, _∙_}
+use mathlib.Core.Path.{_≡_, refl, sym}
 use mathlib.Core.Bool.{Bool, true, false, not, _&&_, and-false, true≢false}
 use lib.Dec.{leb}
 use Rattle.laws.specs.Choice.{if_then_else_}
 use Rattle.mode_a.specs.declared.Role.{Role}
 use Rattle.mode_a.specs.declared.Number.{Number}
 use Rattle.mode_a.specs.declared.Words.{Words}
-use Rattle.mode_a.specs.declared.Held.{Held}
 use Rattle.mode_a.specs.declared.Place.{Place}
 use Rattle.mode_a.specs.declared.Place.the-variants.{Sending, Turning, Opening, Ending, Receiving, Asking, StandBy, Lost, Calling}
 use Rattle.mode_a.specs.declared.Offer.{Offer}
@@ -17,7 +16,6 @@ use Rattle.mode_a.specs.declared.Station.{Station}
 use Rattle.mode_a.specs.declared.Doing.{Doing}
 use Rattle.mode_a.specs.declared.Doing.the-variants.{Repeats, Goes, Takes, Receives, Opens, Accepts, Rests, Answers, Listens, Reaches}
 use Rattle.mode_a.specs.declared.Reply.{Reply}
-use Rattle.mode_a.specs.declared.Called.{Called}
 use Rattle.mode_a.specs.Station.{same, marks, markOf, other}
 use Rattle.mode_a.specs.Heard.{First, Cs, Cs3, Rq, Else, Heard, firstOf, heardOf}
 use Rattle.mode_a.specs.Over.{listenedAll}
@@ -31,9 +29,9 @@ use Rattle.runs.proofs.StepLaws.{Answers as Answered, by-repeat, by-acc
 Is : Bool → Doing → Type 0
 Is t d = t ≡ isTaking d
 
-calls-on-takes-none : (c : Called) (t : Bool) (d e : Doing) → isTaking d ≡ false → isTaking e ≡ false → false ≡ isTaking (if t then d else e)
-calls-on-takes-none c true d e p q = sym p
-calls-on-takes-none c false d e p q = sym q
+neither-takes : (t : Bool) (d e : Doing) → isTaking d ≡ false → isTaking e ≡ false → false ≡ isTaking (if t then d else e)
+neither-takes true d e p q = sym p
+neither-takes false d e p q = sym q
 
 pub takes-by-row : (r : Role) (p : Place) (h : Heard) → taking p (h .first) ≡ isTaking (rowOf r p h)
 unfolding Is
@@ -68,10 +66,10 @@ takes-by-row r (Calling c) h = go (h .first)
     by-mark false n e p = sym p
 
     go : (f : First) → taking (Calling c) f ≡ isTaking (rowOf r (Calling c) (record { first = f; block = h .block; RQs = h .RQs; alphas = h .alphas; turned = h .turned; call = h .call }))
-    go (Cs n) = by-mark (marks (c .last) n) n (callsOn c (markOf n)) (sym (calls-on-takes-none c (leb 128 (c .sent)) _ _ refl refl))
+    go (Cs n) = by-mark (marks (c .last) n) n (callsOn c (markOf n)) (sym (neither-takes (leb 128 (c .sent)) _ _ refl refl))
     go Cs3 = refl
-    go Rq = calls-on-takes-none c (leb 128 (c .sent)) _ _ refl refl
-    go Else = calls-on-takes-none c (leb 128 (c .sent)) _ _ refl refl
+    go Rq = neither-takes (leb 128 (c .sent)) _ _ refl refl
+    go Else = neither-takes (leb 128 (c .sent)) _ _ refl refl
 
 -- what is reported: at Sending afterwards, exactly that a row took
 Told : Bool → Reply → Type 0

@@ -51,6 +51,11 @@ abbrev pub isAnswered : Answer Reply → Bool
 isAnswered (answered r) = true
 isAnswered (refused n v) = false
 
+-- whether the answer takes the offer
+abbrev pub isTaken : Answer Reply → Bool
+isTaken (answered r) = r .taken
+isTaken (refused n v) = false
+
 -- an offer that is not refused: each word of a text is traffic or β, each of a call one of table 3a
 abbrev pub InOrder : Offer → Type 0
 InOrder (Offer.Text w) = isBlock w ≡ true
