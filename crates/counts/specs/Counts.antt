@@ -30,7 +30,7 @@ pub record Counted (fresh : Station) (run : Run) : Type 0 where
   pub at-most : isLost (after fresh run .place) ≡ false → inARow fresh run ≤ 31
   -- Lost, it is 0
   pub lost-counts : isLost (after fresh run .place) ≡ true → after fresh run .count ≡ 0
-  -- and so at every other place but the five: Ending, Stand-by, Calling
+  -- and so where no repetition counts: at Ending, Stand-by and Calling
   pub elsewhere-counts : counting (after fresh run .place) ≡ false → after fresh run .count ≡ 0
   -- a step makes a station Lost exactly where it is the 32nd repetition in a row
   pub lost-by-the-32nd : (e : Event) (r : Reply) → stepping (after fresh run) (e .burst) (e .offer) ≡ answered r → isLost (after fresh run .place) ≡ false → isLost (r .station .place) ≡ repetition (after fresh run) e && eqb (inARow fresh run) 31

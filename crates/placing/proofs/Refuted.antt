@@ -3,6 +3,7 @@
 --     no-cs1-then-cs2         CS1 and then CS2 are enough
 --     no-cs1-silence-cs1      CS1, silence, CS1 are enough
 --     no-cs1-before-the-call  a CS1 in the step that places the call counts
+--     no-cs3-ignored          CS3 leaves it calling
 --     no-block-twice          the same call block twice is a call
 --     no-block-silence-block  block 1, silence, block 2 are a call
 --     no-call-in-the-128th    a call is placed in the 128th step of the wait (in the 129th it is: `taken-at-last`)
@@ -11,7 +12,7 @@
 use mathlib.Core.Path.{_≡_, refl, sym, _∙_}
 use mathlib.Core.Bool.{true, false≢true}
 use native.Mathlib.Omega.{arith}
-use Rattle.signals.specs.Meaning.{cs1, cs2}
+use Rattle.signals.specs.Meaning.{cs1, cs2, cs3}
 use Rattle.signals.specs.Numbers.{firstNot}
 use Rattle.mode_a.specs.declared.Offer.{Offer}
 use Rattle.mode_a.specs.declared.Station.{Station}
@@ -51,6 +52,10 @@ oneOffers = record { burst = single cs1; offer = Offer.Call coast }
 pub no-cs1-before-the-call : ((run : Run) → isCalling (after set (run ▷ oneOffers) .place) ≡ true → inTraffic (after set (run ▷ oneOffers ▷ one) .place) ≡ true) → ⊥
 unfolding stepping sound done firstNot heardOf firstOf isWords callOf isCallable isIdentity
 no-cs1-before-the-call claim = false≢true (claim start refl)
+
+pub no-cs3-ignored : ((run : Run) → isCalling (after set run .place) ≡ true → isCalling (after set (run ▷ hears (single cs3)) .place) ≡ true) → ⊥
+unfolding stepping sound done firstNot heardOf firstOf isWords callOf isCallable isIdentity
+no-cs3-ignored claim = false≢true (claim (start ▷ offers) refl)
 
 -- at Stand-by
 pub no-block-twice : ((run : Run) → isStandBy (after set run .place) ≡ true → isReceiving (after set (run ▷ block1 ▷ block1) .place) ≡ true) → ⊥
