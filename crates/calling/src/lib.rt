@@ -5,9 +5,8 @@ ghost use Rattle.laws.specs.Choice.{if_then_else_};
 ghost use Rattle.mode_a.specs.Calls.{isCallable, nextBlock};
 ghost use Rattle.mode_a.specs.Station.{marks};
 ghost use Rattle.mode_a.specs.Heard.{Cs, callOf};
-ghost use Rattle.mode_a.specs.Rows.{bothHeard, callsOn, calling};
+ghost use Rattle.mode_a.specs.Rows.{bothHeard, standBy, callsOn, calling};
 ghost use Rattle.carried.specs.Carried.{waitingIn, calledIn};
-ghost use Rattle.calling.specs.Listening.{listening};
 use mode_a::Called;
 use mode_a::Doing;
 use mode_a::Identity;
@@ -65,7 +64,7 @@ fn both_heard(before: Mark, now: Mark) -> bool
 
 // Stand-by that hears a burst: it answers a call, or keeps which of its own call blocks this is.
 pub fn listening(place: Place, own: Own, burst: Words) -> Doing
-    ensures { λ r. ⌜ r ≡ listening (waitingIn place) (callOf (own .four) burst) ⌝ }
+    ensures { λ r. ⌜ r ≡ standBy (waitingIn place) (callOf (own .four) burst) ⌝ }
 {
     let four = own.four;
     let w = carried::waiting_in(place);

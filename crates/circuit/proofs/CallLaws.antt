@@ -72,7 +72,7 @@ row-quits r Opening h n = by-opening (Quits false) r (h .first) (λ n. tt) tt tt
 row-quits r (Ending e) h n = by-ending (Quits false) e (h .first) tt (λ i. refl)
 row-quits r (Receiving m) h n = by-receiving (Quits false) m h (λ c. tt) (λ c. tt) (λ c. tt)
 row-quits r Asking h n = by-asking (Quits false) h tt tt
-row-quits r (StandBy w) h n = by-standing (Quits true) w h (λ c. tt) (λ c. refl)
+row-quits r (StandBy w) h n = by-standing (Quits true) w (h .call) (λ c. tt) (λ c. refl)
 row-quits r Lost h n = refl
 row-quits r (Calling c) h n = absurd (true≢false n)
 

@@ -49,7 +49,7 @@ row-fits r (Ending e) h s =
     by-ending Fits e (h .first) tt (λ i. let l = leb-false 4 (e .total) i in rw (le-leb 1 (e .total + 1) (omega arith), le-leb (e .total + 1) 4 (omega arith)))
 row-fits r (Receiving n) h s = by-receiving Fits n h (λ c. tt) (λ c. tt) (λ c. tt)
 row-fits r Asking h s = by-asking Fits h tt tt
-row-fits r (StandBy w) h s = by-standing Fits w h (λ c. tt) (λ c. tt)
+row-fits r (StandBy w) h s = by-standing Fits w (h .call) (λ c. tt) (λ c. tt)
 row-fits r Lost h s = refl
 row-fits r (Calling c) h s = by-calling Fits c (h .first) (λ n e i. tt) tt (λ i. refl)
 

@@ -347,13 +347,13 @@ module _ (s : Station) (b : Words) (o : Offer) where
       by-listen (λ (r : Reply). Quiet r → After false o none none p r [] []) (placed s (StandBy x)) y o (λ i e z q. absurd (true≢false q)) (λ q. goes _ _ refl (l _))
 
   not-called : (x : Waiting) {p : Place} → ((z : Waiting) → Link p (StandBy z) silence none none) → callOf (s .own .four) b ≡ Mark.None →
-      Quiet (done (placed s (StandBy x)) b o (standBy x (heardOf (s .own) b))) →
-      Row (StandBy x) p none none (standBy x (heardOf (s .own) b)) (firstOf (b .0)) (isBlock b)
+      Quiet (done (placed s (StandBy x)) b o (standBy x (heardOf (s .own) b .call))) →
+      Row (StandBy x) p none none (standBy x (heardOf (s .own) b .call)) (firstOf (b .0)) (isBlock b)
   unfolding done heardOf
   not-called x l e q = rw (e, both-none (x .heard)) (waits _ l x (rw (e, both-none (x .heard)) at q))
 
-  called-or : (x : Waiting) (c : Called) → Quiet (done (placed s (StandBy x)) b o (standBy x (heardOf (s .own) b))) →
-      Row (StandBy x) (Calling c) none none (standBy x (heardOf (s .own) b)) (firstOf (b .0)) (isBlock b)
+  called-or : (x : Waiting) (c : Called) → Quiet (done (placed s (StandBy x)) b o (standBy x (heardOf (s .own) b .call))) →
+      Row (StandBy x) (Calling c) none none (standBy x (heardOf (s .own) b .call)) (firstOf (b .0)) (isBlock b)
   unfolding done heardOf
   called-or x c = go (bothHeard (x .heard) (callOf (s .own .four) b))
     where

@@ -118,7 +118,7 @@ module _ (s : Station) (b : Words) (o : Offer) (fine : InOrder o) where
       by-receiving (Row 0) n h (λ y. accepted s n b o) (λ y. elsewhere _ refl (asked (other n))) (λ y. repeated s _ (ap totalOf e) (asked n))
   by-place Asking e i h = by-asking (Row 0) h (elsewhere _ refl (requests-no-ααα (s .role))) (repeated s _ (ap totalOf e) refl)
   by-place (StandBy w) e i h =
-      by-standing (Row 0) w h (λ y. elsewhere _ refl refl) (λ y. by-listen (Ends 0) s _ o (λ x c z. elsewhere _ refl (called-1 x)) (elsewhere _ refl refl))
+      by-standing (Row 0) w (h .call) (λ y. elsewhere _ refl refl) (λ y. by-listen (Ends 0) s _ o (λ x c z. elsewhere _ refl (called-1 x)) (elsewhere _ refl refl))
   by-place Lost e i h = elsewhere _ refl refl
   by-place (Calling c) e i h =
       by-calling (Row 0) c (h .first) (λ n f m. taken (reached s (c .to)) n o fine) (elsewhere _ refl refl) (λ l. elsewhere _ refl (called-next (c .to) (c .sent)))

@@ -110,7 +110,7 @@ module _ (s : Station) (b : Words) (o : Offer) (h : Heard) where
       by-receiving (Row (Receiving n)) n h (λ y. by-accept (Fact (placed s (Receiving n)) h (Accepts n)) _ n b (isOver o) (listenedAll (s .case) (s .plus) b) (λ u. else-fact _ h _ _ refl (rw y) refl refl refl) (else-fact _ h _ _ refl (rw y) refl refl refl)) (λ y. else-fact _ h _ _ refl (rw y) refl refl refl) (λ y. again _ h b o _ refl (rw y))
   row-fact Asking = by-asking (Row Asking) h (else-fact _ h _ _ refl refl refl refl refl) (again _ h b o _ refl refl)
   row-fact (StandBy w) =
-      by-standing (Row (StandBy w)) w h (λ y. else-fact _ h _ _ refl refl refl refl refl) (λ y. by-listen (Fact (placed s (StandBy w)) h (Listens _)) (placed s (StandBy w)) _ o (λ i c z. else-fact _ h _ _ refl refl refl refl refl) (else-fact _ h _ _ refl refl refl refl refl))
+      by-standing (Row (StandBy w)) w (h .call) (λ y. else-fact _ h _ _ refl refl refl refl refl) (λ y. by-listen (Fact (placed s (StandBy w)) h (Listens _)) (placed s (StandBy w)) _ o (λ i c z. else-fact _ h _ _ refl refl refl refl refl) (else-fact _ h _ _ refl refl refl refl refl))
   row-fact Lost =
       record {
         told = λ x. refl;

@@ -121,9 +121,8 @@ bothHeard Mark.Two Mark.None = false
 bothHeard Mark.Two Mark.One = true
 bothHeard Mark.Two Mark.Two = false
 
-abbrev pub standBy : Waiting → Heard → Doing
-standBy w h =
-    if bothHeard (w .heard) (h .call) then Answers else Listens (record { wait = w .wait; heard = h .call })
+abbrev pub standBy : Waiting → Mark → Doing
+standBy w m = if bothHeard (w .heard) m then Answers else Listens (record { wait = w .wait; heard = m })
 
 -- Calling (reads the first word) (02, T-02)                                                               R-183
 --     the same   "goes on to traffic on two successive identical CS1 or CS2"            3.5.6             R-186
@@ -148,6 +147,6 @@ rowOf r Opening h = opening r (h .first)
 rowOf r (Ending e) h = ending e (h .first)
 rowOf r (Receiving n) h = receiving n h
 rowOf r Asking h = asking h
-rowOf r (StandBy w) h = standBy w h
+rowOf r (StandBy w) h = standBy w (h .call)
 rowOf r Lost h = Goes Lost silence
 rowOf r (Calling c) h = calling c (h .first)

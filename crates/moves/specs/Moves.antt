@@ -15,9 +15,8 @@ use Rattle.mode_a.specs.declared.Doing.{Doing}
 use Rattle.mode_a.specs.declared.Doing.the-variants.{Repeats, Goes, Takes, Receives, Opens, Accepts, Rests}
 use Rattle.mode_a.specs.Station.{single, silence, βαβ, ααα, RQ×3, other, same, asksFor}
 use Rattle.mode_a.specs.Heard.{Cs}
-use Rattle.mode_a.specs.Rows.{requests, calling, callsOn}
+use Rattle.mode_a.specs.Rows.{requests, calling, callsOn, standBy}
 use Rattle.carried.specs.Carried.{numberIn, blockIn, totalIn, waitingIn, calledIn}
-use Rattle.calling.specs.Listening.{listening}
 use Rattle.table.specs.declared.Action.{Action}
 
 abbrev pub asked : Number → Number → Words → Doing
@@ -54,7 +53,7 @@ doingOf Action.AskAgain r p m = Repeats (asksFor (numberIn p))
 doingOf Action.Finish r p m = Rests 0 (asksFor (other (numberIn p)))
 doingOf Action.Cs3Again r p m = Repeats (single cs3)
 doingOf Action.Open r p m = Opens
-doingOf Action.Listen r p m = listening (waitingIn p) m
+doingOf Action.Listen r p m = standBy (waitingIn p) m
 doingOf Action.Silent r p m = Goes p silence
 doingOf Action.Called1 r p m = calling (calledIn p) (Cs One)
 doingOf Action.Called2 r p m = calling (calledIn p) (Cs Two)

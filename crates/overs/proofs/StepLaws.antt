@@ -109,7 +109,7 @@ module _ (s : Station) (e : Event) where
       by-receiving (Row (Receiving n)) n (heardOf (s .own) (e .burst)) (λ y. rw y (took (took-by (placed s (Receiving n)) n (e .burst) (isOver (e .offer)) (listenedAll (s .case) (s .plus) (e .burst))))) (λ y. rw y (left refl refl)) (λ y. rw y (repeated (Receiving n) _))
   row Asking = by-asking (Row Asking) (heardOf (s .own) (e .burst)) (cancelled refl refl) (repeated Asking _)
   row (StandBy w) =
-      by-standing (Row (StandBy w)) w (heardOf (s .own) (e .burst)) (λ y. began refl refl) (λ y. by-listen (Left (StandBy w)) (placed s (StandBy w)) _ (e .offer) (λ i c z. began refl refl) (left refl refl))
+      by-standing (Row (StandBy w)) w (heardOf (s .own) (e .burst) .call) (λ y. began refl refl) (λ y. by-listen (Left (StandBy w)) (placed s (StandBy w)) _ (e .offer) (λ i c z. began refl refl) (left refl refl))
   row Lost = left refl refl
   row (Calling c) =
       by-calling (Row (Calling c)) c (firstOf (e .burst .0)) (λ n f m. taken (Calling c) (reached (placed s (Calling c)) (c .to)) n refl refl) (left refl refl) (λ l. left refl refl)

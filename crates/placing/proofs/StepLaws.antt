@@ -116,7 +116,7 @@ module _ (s : Station) (b : Words) (o : Offer) (fine : InOrder o) where
       by-receiving Row n (heardOf (s .own) b) (λ y. accepted s n b o) (λ y. rested-does _ e refl refl _ (asked-no-call (other n))) (λ y. repeated _ e refl refl _ (asked-no-call n))
   by-place Asking e i = by-asking Row (heardOf (s .own) b) (sent _ _ refl refl (requests-no-call (s .role))) (repeated _ e refl refl _ refl)
   by-place (StandBy w) e i =
-      by-standing Row w (heardOf (s .own) b) (λ y. sent _ _ refl refl refl) (λ y. by-listen (Does s b o) s _ o (λ x z u. places w x e z (subst InOrder z fine) refl) (waits w e refl))
+      by-standing Row w (heardOf (s .own) b .call) (λ y. sent _ _ refl refl refl) (λ y. by-listen (Does s b o) s _ o (λ x z u. places w x e z (subst InOrder z fine) refl) (waits w e refl))
   by-place Lost e i = sent _ _ refl refl refl
   by-place (Calling c) e i =
       by-calling Row c (firstOf (b .0)) (λ n x y. taken s (reached s (c .to)) b n o fine) (rests (ap isStandBy e) (rw e, refl) refl (and-false (isCall o))) (λ l. calls-on c e l refl)

@@ -37,14 +37,13 @@ use Rattle.mode_a.specs.declared.Doing.{Doing}
 use Rattle.mode_a.specs.Calls.{isIdentity, signalsOf, callBlock1, callBlock2}
 use Rattle.mode_a.specs.Station.{words, other, same, asksFor, markOf}
 use Rattle.mode_a.specs.Heard.{Cs, mayHold, isWords, callOf}
-use Rattle.mode_a.specs.Rows.{requests, callsOn, calling}
+use Rattle.mode_a.specs.Rows.{requests, callsOn, calling, standBy}
 use Rattle.mode_a.specs.Step.{movedTo, cancelledTo, sends, takes, heardAt, accepts, repeats, rested, begun, listens, reached, done}
 use Rattle.table.specs.declared.Kind.{Kind}
 use Rattle.table.specs.declared.Action.{Action}
 use Rattle.table.specs.Kinds.{kindOf, columnOf}
 use Rattle.table.specs.Actions.{actionOf}
 use Rattle.carried.specs.Carried.{numberIn, blockIn, totalIn, waitingIn, calledIn}
-use Rattle.calling.specs.Listening.{listening}
 use Rattle.moves.specs.Moves.{doingOf}
 
 -- `signals::rows`: that there are 35 rows is the answer's type, `[Row; 35]`, and `Rows` says what each is
@@ -129,7 +128,7 @@ pub called-in-unique : (place : Place) (r r′ : Called) → r ≡ calledIn plac
 called-in-unique place r r′ p q = unique p q
 
 -- `calling::listening`, `calling::calls_on`, `calling::called`
-pub listening-unique : (place : Place) (own : Own) (burst : Words) (r r′ : Doing) → r ≡ listening (waitingIn place) (callOf (own .four) burst) → r′ ≡ listening (waitingIn place) (callOf (own .four) burst) → r ≡ r′
+pub listening-unique : (place : Place) (own : Own) (burst : Words) (r r′ : Doing) → r ≡ standBy (waitingIn place) (callOf (own .four) burst) → r′ ≡ standBy (waitingIn place) (callOf (own .four) burst) → r ≡ r′
 listening-unique place own burst r r′ p q = unique p q
 
 pub calls-on-unique : (place : Place) (heard : Mark) (r r′ : Doing) → r ≡ callsOn (calledIn place) heard → r′ ≡ callsOn (calledIn place) heard → r ≡ r′

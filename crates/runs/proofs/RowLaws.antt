@@ -82,10 +82,10 @@ module _ (P : Doing → Type 0) where
   pub by-asking : (h : Heard) → P Opens → P (Repeats (single cs3)) → P (asking h)
   by-asking h turned ask = by-test (h .turned) turned ask
 
-  pub by-standing : (w : Waiting) (h : Heard) → (bothHeard (w .heard) (h .call) ≡ true → P Answers) → (bothHeard (w .heard) (h .call) ≡ false → P (Listens (record { wait = w .wait; heard = h .call }))) → P (standBy w h)
-  by-standing w h = go (bothHeard (w .heard) (h .call))
+  pub by-standing : (w : Waiting) (m : Mark) → (bothHeard (w .heard) m ≡ true → P Answers) → (bothHeard (w .heard) m ≡ false → P (Listens (record { wait = w .wait; heard = m }))) → P (standBy w m)
+  by-standing w m = go (bothHeard (w .heard) m)
     where
-      go : (t : Bool) → (t ≡ true → P Answers) → (t ≡ false → P (Listens (record { wait = w .wait; heard = h .call }))) → P (if t then Answers else Listens (record { wait = w .wait; heard = h .call }))
+      go : (t : Bool) → (t ≡ true → P Answers) → (t ≡ false → P (Listens (record { wait = w .wait; heard = m }))) → P (if t then Answers else Listens (record { wait = w .wait; heard = m }))
       go true answer listen = answer refl
       go false answer listen = listen refl
 

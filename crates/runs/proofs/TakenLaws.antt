@@ -57,7 +57,7 @@ takes-by-row r Opening h = go (h .first)
 takes-by-row r (Ending e) h = by-ending (Is false) e (h .first) refl (λ l. refl)
 takes-by-row r (Receiving n) h = by-receiving (Is false) n h (λ c. refl) (λ c. refl) (λ c. refl)
 takes-by-row r Asking h = by-asking (Is false) h refl refl
-takes-by-row r (StandBy w) h = by-standing (Is false) w h (λ c. refl) (λ c. refl)
+takes-by-row r (StandBy w) h = by-standing (Is false) w (h .call) (λ c. refl) (λ c. refl)
 takes-by-row r Lost h = refl
 takes-by-row r (Calling c) h = go (h .first)
   where
