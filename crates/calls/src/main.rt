@@ -182,6 +182,7 @@ fn receiver_of(head: &[u8; 10]) -> Receiver {
             third: head[5],
             dx: head[6] % 2 == 0,
             printing: head[7] % 2 == 1,
+            wait: head[8],
         }),
     }
 }
@@ -199,12 +200,34 @@ fn put_searching(line: &mut [u8], run: u8, last: Phasing) -> usize {
     }
 }
 
-// The oldest DX word: where a DX slot comes next, it is settled.
+// The oldest DX word: it is settled where a DX slot comes next, and at the last word of the wait.
 fn oldest(p: Phase) -> u8 {
     if p.dx {
         return 0;
     }
+    if p.wait == 1 {
+        return 0;
+    }
     p.first
+}
+
+// A later DX word: within the wait none is settled any more.
+fn later(word: u8, wait: u8) -> u8 {
+    if wait == 0 {
+        return word;
+    }
+    0
+}
+
+// Whether printing has begun: behind the first word of the wait nothing more is printed.
+fn begun(p: Phase) -> bool {
+    if p.wait == 0 {
+        return p.printing;
+    }
+    if p.wait == 3 {
+        return p.printing;
+    }
+    false
 }
 
 fn put_next(line: &mut [u8], at: usize, dx: bool) -> usize {
@@ -214,15 +237,15 @@ fn put_next(line: &mut [u8], at: usize, dx: bool) -> usize {
     numbers::put_all(line, at, b" rx")
 }
 
-// The DX words, the next slot, whether printing has begun, and a wait of 0.
+// The DX words, the next slot, whether printing has begun, and the wait; 0 for what can no longer matter.
 fn put_phase(line: &mut [u8], p: Phase) -> usize {
     let mut at = numbers::put_all(line, 0, b"phase");
     at = fields::put_number(line, at, oldest(p));
-    at = fields::put_number(line, at, p.second);
-    at = fields::put_number(line, at, p.third);
+    at = fields::put_number(line, at, later(p.second, p.wait));
+    at = fields::put_number(line, at, later(p.third, p.wait));
     at = put_next(line, at, p.dx);
-    at = fields::put_flag(line, at, p.printing);
-    numbers::put_all(line, at, b" 0")
+    at = fields::put_flag(line, at, begun(p));
+    fields::put_number(line, at, p.wait)
 }
 
 fn put_hearing(line: &mut [u8], receiver: Receiver) -> usize {

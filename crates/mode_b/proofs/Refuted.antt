@@ -3,7 +3,17 @@
 --     no-refusing-sender     one that refuses every slot
 --     no-order-7-6-3         one that tells a slot past the last before a word that may not stand in the text
 --     no-printing-at-once    a receiver that prints from the first settled signal, and not from the first return or line feed
---     no-last-lost           one that ends at two α in DX and prints nothing of the position before them
+-- Wrong ends of reception (02, T-03).
+--     no-dx-alone            at the second α the position before the two is settled at once, by its DX alone
+--     no-star-for-the-last   where its DX is damaged it is an error, though its RX is intact
+--     no-wait-of-two         two words are heard behind the second α
+--     no-wait-of-four        four words are
+--     no-third-α-anew        an α behind the two begins the wait anew
+--     no-second-printed      the second of the three words is settled and printed
+--     no-third-printed       the third is
+--     no-wait-searched       the words of the wait count for the search
+--     no-wait-of-4-taken     a remaining wait of 4 is taken
+--     no-wait-of-3-refused   a remaining wait of 3 is refused
 -- Wrong fresh receivers.
 --     no-fresh-receiver-with-a-run   one whose search run is not 0, whichever its last signal is
 --     no-fresh-receiver-after-rq     one whose last signal is RQ
@@ -12,7 +22,7 @@
 use mathlib.Core.Path.{_≡_, ap, sym, _∙_}
 use mathlib.Core.Bool.{Bool, true, false}
 use mathlib.Core.List.{List, [], _∷_}
-use Prim.Native.Nat.{ℕ, suc}
+use Prim.Native.Nat.{ℕ, suc, _+_}
 use native.Mathlib.Omega.{arith}
 use Rattle.signals.specs.Units.{intactOf, onesOf}
 use Rattle.signals.specs.Meaning.{meaningOf, trafficOf}
@@ -20,20 +30,17 @@ use Rattle.signals.specs.Numbers.{Answer, answered, refused, firstNot}
 use Rattle.mode_b.specs.declared.Slot.{Slot}
 use Rattle.mode_b.specs.declared.Phasing.{Phasing}
 use Rattle.mode_b.specs.declared.Phase.{Phase}
+use Rattle.mode_b.specs.declared.Hearing.{Hearing}
 use Rattle.mode_b.specs.declared.Hearing.the-variants.{Searching, InPhase}
 use Rattle.mode_b.specs.declared.Receiver.{Receiver}
 use Rattle.mode_b.specs.declared.Heard.{Heard}
 use Rattle.mode_b.specs.declared.Received.{Received}
 use Rattle.mode_b.specs.Sender.{withBreaks, positionsOf, slotsFrom, slotsOf, slotting, saidSlot, Slots}
-use Rattle.mode_b.specs.Receiver.{freshReceiver, settled, settledAlone, heardRx, heardDx, receiving, Receives}
+use Rattle.mode_b.specs.Receiver.{freshReceiver, settled, heardRx, heardDx, waited, printedIn, Receives}
 
 abbrev numberIn : Answer ℕ → ℕ
 numberIn (answered w) = 0
 numberIn (refused n v) = n
-
-abbrev printedIn : Answer Heard → ℕ
-printedIn (answered h) = h .printed
-printedIn (refused n v) = 0
 
 -- whatever satisfies the promise there is no refusal, of any number
 pub no-refusing-sender : (r : Slot) → Slots (86 ∷ []) 36 r → numberIn (saidSlot r) ≡ 0
@@ -46,17 +53,66 @@ unfolding slotting firstNot trafficOf meaningOf
 no-order-7-6-3 n p = let z : _≡_ {A = ℕ} 6 3 = ap numberIn p in omega arith
 
 -- in phase, the first of the three DX words E
-abbrev waiting : Bool → ℕ → ℕ → Bool → Receiver
-waiting dx second third printing = record { hearing = InPhase (record { first = 86; second = second; third = third; dx = dx; printing = printing }) }
+abbrev waiting : Bool → ℕ → ℕ → Bool → ℕ → Receiver
+waiting dx second third printing wait =
+    record { hearing = InPhase (record { first = 86; second = second; third = third; dx = dx; printing = printing; wait = wait }) }
 
-pub no-printing-at-once : (h : Heard) → h .printed ≡ 86 → Receives (waiting false 86 86 false) 86 (Received.Done h) → ⊥
+pub no-printing-at-once : (h : Heard) → h .printed ≡ 86 → Receives (waiting false 86 86 false 0) 86 (Received.Done h) → ⊥
 unfolding heardRx settled intactOf onesOf
 no-printing-at-once h e p = let z : _≡_ {A = ℕ} 86 0 = sym e ∙ ap printedIn (p .0) in omega arith
 
 -- the DX before this α is α, and before that one E
-pub no-last-lost : (h : Heard) → h .printed ≡ 0 → Receives (waiting true 86 15 true) 15 (Received.Done h) → ⊥
-unfolding heardDx settledAlone intactOf onesOf trafficOf meaningOf
-no-last-lost h e p = let z : _≡_ {A = ℕ} 0 86 = sym e ∙ ap printedIn (p .0) in omega arith
+pub no-dx-alone : (h : Heard) → h .printed ≡ 86 → Receives (waiting true 86 15 true 0) 15 (Received.Done h) → ⊥
+unfolding heardDx
+no-dx-alone h e p = let z : _≡_ {A = ℕ} 86 0 = sym e ∙ ap printedIn (p .0) in omega arith
+
+-- 0 was heard as the DX of the position that waits, and E comes as its RX
+pub no-star-for-the-last : (h : Heard) → h .printed ≡ 255 → Receives (record { hearing = InPhase (record { first = 0; second = 15; third = 15; dx = false; printing = true; wait = 3 }) }) 86 (Received.Done h) → ⊥
+unfolding heardRx waited settled intactOf onesOf trafficOf meaningOf
+no-star-for-the-last h e p = let z : _≡_ {A = ℕ} 255 86 = sym e ∙ ap printedIn (p .0) in omega arith
+
+-- how many words a receiver in phase still waits for; 4 stands for a search, whose run is the number above it
+abbrev waitIn : Hearing → ℕ
+waitIn (Searching run last) = 4 + run
+waitIn (InPhase p) = p .wait
+
+abbrev refusal : Answer Heard → ℕ
+refusal (answered h) = 0
+refusal (refused n v) = n
+
+abbrev waitOf : Answer Heard → ℕ
+waitOf (answered h) = waitIn (h .receiver .hearing)
+waitOf (refused n v) = 0
+
+pub no-wait-of-two : (h : Heard) → h .receiver ≡ freshReceiver → Receives (waiting true 15 15 true 2) 71 (Received.Done h) → ⊥
+unfolding waited
+no-wait-of-two h e p = let z : _≡_ {A = ℕ} 4 1 = sym (ap (λ (r : Receiver). waitIn (r .hearing)) e) ∙ ap waitOf (p .0) in omega arith
+
+pub no-wait-of-four : (h : Heard) → waitIn (h .receiver .hearing) ≡ 1 → Receives (waiting false 15 15 true 1) 71 (Received.Done h) → ⊥
+unfolding waited
+no-wait-of-four h e p = let z : _≡_ {A = ℕ} 1 4 = sym e ∙ ap waitOf (p .0) in omega arith
+
+pub no-third-α-anew : (h : Heard) → waitIn (h .receiver .hearing) ≡ 3 → Receives (waiting true 15 15 true 2) 15 (Received.Done h) → ⊥
+unfolding waited
+no-third-α-anew h e p = let z : _≡_ {A = ℕ} 3 1 = sym e ∙ ap waitOf (p .0) in omega arith
+
+pub no-second-printed : (h : Heard) → h .printed ≡ 86 → Receives (waiting true 15 15 true 2) 86 (Received.Done h) → ⊥
+unfolding waited
+no-second-printed h e p = let z : _≡_ {A = ℕ} 86 0 = sym e ∙ ap printedIn (p .0) in omega arith
+
+pub no-third-printed : (h : Heard) → h .printed ≡ 86 → Receives (waiting false 15 15 true 1) 86 (Received.Done h) → ⊥
+unfolding waited
+no-third-printed h e p = let z : _≡_ {A = ℕ} 86 0 = sym e ∙ ap printedIn (p .0) in omega arith
+
+pub no-wait-searched : (h : Heard) (run : ℕ) (last : Phasing) → h .receiver .hearing ≡ Searching (suc run) last → Receives (waiting false 15 15 true 1) 15 (Received.Done h) → ⊥
+unfolding waited
+no-wait-searched h run last e p = let z : 4 + suc run ≡ 4 = sym (ap waitIn e) ∙ ap waitOf (p .0) in omega arith
+
+pub no-wait-of-4-taken : (h : Heard) (w : ℕ) → Receives (waiting true 86 86 true 4) w (Received.Done h) → ⊥
+no-wait-of-4-taken h w p = let z : _≡_ {A = ℕ} 0 4 = ap refusal (p .0) in omega arith
+
+pub no-wait-of-3-refused : (r : Receiver) (w : ℕ) → Receives (waiting false 86 86 true 3) w (Received.BadReceiver r) → ⊥
+no-wait-of-3-refused r w p = let z : _≡_ {A = ℕ} 4 0 = ap refusal (p .0) in omega arith
 
 pub no-fresh-receiver-with-a-run : (r : Receiver) (run : ℕ) (last : Phasing) → r .hearing ≡ Searching (suc run) last → r ≡ freshReceiver → ⊥
 no-fresh-receiver-with-a-run r run last e p = let z : _≡_ {A = ℕ} 0 1 = cc in omega arith

@@ -47,7 +47,7 @@ isOne Phasing.One = true
 isOne Phasing.Two = false
 
 abbrev pub locked : Phasing → Hearing
-locked s = InPhase (record { first = rq; second = rq; third = rq; dx = isOne s; printing = false })
+locked s = InPhase (record { first = rq; second = rq; third = rq; dx = isOne s; printing = false; wait = 0 })
 
 abbrev pub searchedOn : ℕ → Phasing → Heard
 searchedOn run s = if ltb 3 run then hears (locked s) else hears (Searching run s)
@@ -76,10 +76,6 @@ settled dx rx =
     else if intactOf rx && not (intactOf dx) then signal rx
     else error
 
--- "the one position before them is settled by its DX alone"  R-123
-unfoldable pub settledAlone : ℕ → Settled
-settledAlone dx = if intactOf dx then signal dx else error
-
 -- "Printing begins with the first settled return or line feed, which is printed; from then on traffic signals and error marks are
 -- printed."  R-120, R-121: what is printed, 0 for nothing, and whether printing has begun
 abbrev pub begins : ℕ → Bool
@@ -95,26 +91,42 @@ printingAfter printing (signal w) = printing || begins w
 printingAfter printing phasing = printing
 printingAfter printing error = printing
 
--- In an RX slot the oldest waiting position is settled.
-unfoldable pub heardRx : Phase → ℕ → Heard
-heardRx p w =
+-- In an RX slot the oldest waiting position is settled; `left` is what remains of the wait behind it.
+unfoldable pub heardRx : Phase → ℕ → ℕ → Heard
+heardRx p w left =
     printsAt
-    (InPhase (record { first = p .first; second = p .second; third = p .third; dx = true; printing = printingAfter (p .printing) (settled (p .first) w) }))
+    (InPhase (record { first = p .first; second = p .second; third = p .third; dx = true; printing = printingAfter (p .printing) (settled (p .first) w); wait = left }))
     (printedOf (p .printing) (settled (p .first) w))
 
--- In a DX slot the word waits. "Two successive intact α in DX end reception at once: the one position before them is settled by its
--- DX alone, and the receiver searches anew."  R-122, R-123, R-124: the third word is the DX before this one, the second the one before
--- that, and the first has been settled.
+-- In a DX slot the word waits. "Two successive intact α in DX", and 02, T-03: "hear three more signals after the second α"  R-122:
+-- the third word is the DX before this one.
+abbrev pub waitAfter : ℕ → ℕ → ℕ
+waitAfter before w = if eqb w alpha && eqb before alpha then 3 else 0
+
 unfoldable pub heardDx : Phase → ℕ → Heard
 heardDx p w =
-    if eqb w alpha && eqb (p .third) alpha then
-    printsAt (Searching 0 Phasing.One) (printedOf (p .printing) (settledAlone (p .second)))
-    else hears (InPhase (record { first = p .second; second = p .third; third = w; dx = false; printing = p .printing }))
+    hears
+    (InPhase (record { first = p .second; second = p .third; third = w; dx = false; printing = p .printing; wait = waitAfter (p .third) w }))
 
--- 01, Numbers returned, for the receiver: 4, "receiver with a search run over 3", "0"  R-130, R-134
+-- The three words, by how many are still to be heard. The position before the two α waits; its RX is the very next word.
+--     3   "settle the waiting position in the ordinary way"               R-123
+--     2   a word that prints nothing, whatever it is                      R-122
+--     1   likewise; behind it "the receiver searches anew"                R-124
+unfoldable pub waited : Phase → ℕ → Heard
+waited p w =
+    if eqb (p .wait) 3 then heardRx p w 2
+    else if eqb (p .wait) 2 then
+    hears (InPhase (record { first = p .first; second = p .second; third = p .third; dx = false; printing = p .printing; wait = 1 }))
+    else hears (Searching 0 Phasing.One)
+
+abbrev pub heardInPhase : Phase → ℕ → Heard
+heardInPhase p w = if eqb (p .wait) 0 then (if p .dx then heardDx p w else heardRx p w 0) else waited p w
+
+-- 01, Numbers returned, for the receiver: 4, "receiver with a search run over 3", "0"; 02, T-03: "4 also for a remaining wait over
+-- three"  R-130, R-134. A receiver has the one or the other.
 abbrev pub receivingBy : Hearing → ℕ → Answer Heard
 receivingBy (Searching k last) w = if ltb 3 k then refused 4 0 else answered (searched k last w)
-receivingBy (InPhase p) w = answered (if p .dx then heardDx p w else heardRx p w)
+receivingBy (InPhase p) w = if ltb 3 (p .wait) then refused 4 0 else answered (heardInPhase p w)
 
 abbrev pub receiving : Receiver → ℕ → Answer Heard
 receiving r w = receivingBy (r .hearing) w
@@ -136,3 +148,28 @@ receiverAfter r (refused n v) = r
 -- The promise of `receive`.  R-168
 abbrev pub Receives : Receiver → ℕ → Received → Type 0
 Receives r w a = (saidReceived a ≡ receiving r w) × (handedBack a ≡ receiverAfter r (receiving r w))
+
+-- The end of reception once more, sentence by sentence, of a receiver in phase that does not wait, has heard α in the last DX slot and
+-- hears α in this one: whatever the three words behind it are. That it holds is `reception-ends` (proofs/EndLaws.antt).
+--     at-the-end   nothing is printed at the second α
+--     waiting      "hear three more signals after the second α and settle the waiting position in the ordinary way": by the word
+--                  that was kept as its DX and the first of the three as its RX                                    R-122, R-123
+--     second       the second of the three prints nothing,                                                          R-122
+--     third        nor does the third
+--     anew         "the receiver searches anew": as one that has heard nothing, these words neither                  R-124
+abbrev pub printedIn : Answer Heard → ℕ
+printedIn (answered h) = h .printed
+printedIn (refused n v) = 0
+
+abbrev pub printedBy : Receiver → ℕ → ℕ
+printedBy r w = printedIn (receiving r w)
+
+abbrev pub afterWord : Receiver → ℕ → Receiver
+afterWord r w = receiverAfter r (receiving r w)
+
+pub record Ends (p : Phase) (u v w : ℕ) : Type 0 where
+  pub at-the-end : printedBy (record { hearing = InPhase p }) alpha ≡ 0
+  pub waiting : printedBy (afterWord (record { hearing = InPhase p }) alpha) u ≡ printedOf (p .printing) (settled (p .second) u)
+  pub second : printedBy (afterWord (afterWord (record { hearing = InPhase p }) alpha) u) v ≡ 0
+  pub third : printedBy (afterWord (afterWord (afterWord (record { hearing = InPhase p }) alpha) u) v) w ≡ 0
+  pub anew : afterWord (afterWord (afterWord (afterWord (record { hearing = InPhase p }) alpha) u) v) w ≡ freshReceiver

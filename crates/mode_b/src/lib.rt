@@ -26,17 +26,20 @@ pub enum Phasing {
     Two,
 }
 
-// A receiver in phase: the DX words of three positions, the oldest first, whether the next slot is a DX slot, and whether printing has
-// begun. The words are as they were heard, intact or not; as it comes into phase all three are RQ.
+// A receiver in phase: the DX words of three positions, the oldest first, whether the next slot is a DX slot, whether printing has
+// begun, and the remaining wait. The words are as they were heard, intact or not; as it comes into phase all three are RQ. The wait is
+// 0 until two successive α are heard in DX; from then on it is the number of words still to be heard, 3 to 1, and says what the next
+// one is, whatever `dx` says.
 pub struct Phase {
     pub first: u8,
     pub second: u8,
     pub third: u8,
     pub dx: bool,
     pub printing: bool,
+    pub wait: u8,
 }
 
-// What a receiver is doing. The search run, and the last signal of it, exist only while it searches.
+// What a receiver is doing. The search run, and the last signal of it, exist only while it searches; the wait only in phase.
 pub enum Hearing {
     Searching(u8, Phasing),
     InPhase(Phase),
@@ -56,7 +59,7 @@ pub struct Heard {
 // What a receiver's call answers: the step done, or a refusal with the same receiver.
 pub enum Received {
     Done(Heard),
-    // 4: a search run over 3
+    // 4: a search run over 3, or a remaining wait over 3
     BadReceiver(Receiver),
 }
 

@@ -9,8 +9,8 @@ use Rattle.laws.specs.Choice.{if_then_else_}
 use Rattle.laws.proofs.Table.{tabFrom, same-table}
 use Rattle.signals.specs.Units.{onesOf, intactOf}
 use Rattle.signals.specs.Meaning.{meaningOf, trafficOf}
-use Rattle.mode_b.specs.Receiver.{Settled, signal, phasing, error, settled, settledAlone, begins, printedOf, printingAfter}
-use Rattle.receiving.specs.Marks.{alikeOf, phasingOf, markOf, settledMark, aloneMark, printingMark, printedMark}
+use Rattle.mode_b.specs.Receiver.{Settled, signal, phasing, error, settled, begins, printedOf, printingAfter}
+use Rattle.receiving.specs.Marks.{alikeOf, phasingOf, markOf, settledMark, printingMark, printedMark}
 
 -- the tests in the order of the rule
 module _ (dx rx : ℕ) where
@@ -99,14 +99,6 @@ settled-intact dx rx w e = go (intactOf dx) (intactOf rx) (eqb dx rx) (phasingOf
     go false false c true p q e = never (cc)
     go false false c false p q e = never (cc)
 
-alone-intact : (dx w : ℕ) → settledAlone dx ≡ signal w → intactOf w ≡ true
-unfolding settledAlone
-alone-intact dx w e = go (intactOf dx) refl e
-  where
-    go : (a : Bool) → intactOf dx ≡ a → (if a then signal dx else error) ≡ signal w → intactOf w ≡ true
-    go true p e = let v : dx ≡ w = cc in rw v at p
-    go false p e = let z : _≡_ {A = ℕ} 0 1 = cc in absurd (omega arith)
-
 -- so what is printed, and whether printing has begun, can be told from the mark
 mark-prints : (p : Bool) (s : Settled) → ((w : ℕ) → s ≡ signal w → intactOf w ≡ true) → printedMark p (markOf s) ≡ printedOf p s
 mark-prints p (signal w) i = signal-prints p w (i w refl)
@@ -124,6 +116,3 @@ mark-begins p error = or-false p
 
 pub settled-prints : (p : Bool) (dx rx : ℕ) → printedMark p (settledMark dx rx) ≡ printedOf p (settled dx rx)
 settled-prints p dx rx = mark-prints p (settled dx rx) (settled-intact dx rx)
-
-pub alone-prints : (p : Bool) (dx : ℕ) → printedMark p (aloneMark dx) ≡ printedOf p (settledAlone dx)
-alone-prints p dx = mark-prints p (settledAlone dx) (alone-intact dx)

@@ -6,17 +6,14 @@ use Rattle.laws.specs.Choice.{if_then_else_}
 use Rattle.signals.specs.Units.{intactOf}
 use Rattle.signals.specs.Meaning.{alpha, beta, rq}
 use Rattle.mode_b.specs.Sender.{carriageReturn, lineFeed}
-use Rattle.mode_b.specs.Receiver.{Settled, signal, phasing, error, settled, settledAlone}
+use Rattle.mode_b.specs.Receiver.{Settled, signal, phasing, error, settled}
 
--- the tests of settling and of the end
+-- the tests of settling
 abbrev pub alikeOf : ℕ → ℕ → Bool
 alikeOf dx rx = intactOf dx && (intactOf rx && eqb dx rx)
 
 abbrev pub phasingOf : ℕ → ℕ → Bool
 phasingOf dx rx = eqb dx rq && eqb rx alpha
-
-abbrev pub twoAlpha : ℕ → ℕ → Bool
-twoAlpha w before = eqb w alpha && eqb before alpha
 
 abbrev pub markOf : Settled → ℕ
 markOf (signal w) = w
@@ -25,9 +22,6 @@ markOf error = 255
 
 abbrev pub settledMark : ℕ → ℕ → ℕ
 settledMark dx rx = markOf (settled dx rx)
-
-abbrev pub aloneMark : ℕ → ℕ
-aloneMark dx = markOf (settledAlone dx)
 
 abbrev pub printingMark : Bool → ℕ → Bool
 printingMark printing m = printing || (eqb m carriageReturn || eqb m lineFeed)

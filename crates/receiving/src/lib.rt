@@ -1,8 +1,8 @@
 // The receiver of mode B, one word a step (01, Mode B; 001, 4.3, 4.4 and 4.6).
 ghost use mathlib.Core.Path.{_≡_};
 ghost use Prim.Native.Nat.{_≤_};
-ghost use Rattle.mode_b.specs.Receiver.{hears, printsAt, sameSignal, runOf, locked, searchedOn, searched, heardRx, heardDx, Receives};
-ghost use Rattle.receiving.specs.Marks.{alikeOf, phasingOf, twoAlpha, settledMark, aloneMark, printedMark, printingMark};
+ghost use Rattle.mode_b.specs.Receiver.{hears, printsAt, sameSignal, runOf, locked, searchedOn, searched, heardRx, waitAfter, heardDx, waited, heardInPhase, Receives};
+ghost use Rattle.receiving.specs.Marks.{alikeOf, phasingOf, settledMark, printedMark, printingMark};
 use mode_b::Heard;
 use mode_b::Hearing;
 use mode_b::Phase;
@@ -71,6 +71,7 @@ fn locked(now: Phasing) -> Hearing
             third: signals::RQ,
             dx: true,
             printing: false,
+            wait: 0,
         }),
         Phasing::Two => Hearing::InPhase(Phase {
             first: signals::RQ,
@@ -78,6 +79,7 @@ fn locked(now: Phasing) -> Hearing
             third: signals::RQ,
             dx: false,
             printing: false,
+            wait: 0,
         }),
     }
 }
@@ -150,16 +152,6 @@ fn settled(dx: u8, rx: u8) -> u8
     ERROR_MARK
 }
 
-// A position settled by its DX alone.
-fn settled_alone(dx: u8) -> u8
-    ensures { λ r. ⌜ r ≡ aloneMark dx ⌝ }
-{
-    if signals::intact(dx) {
-        return dx;
-    }
-    ERROR_MARK
-}
-
 // Whether printing has begun after a settled position.
 fn printing_after(printing: bool, settled: u8) -> bool
     ensures { λ r. ⌜ r ≡ printingMark printing settled ⌝ }
@@ -193,9 +185,9 @@ fn printed_of(printing: bool, settled: u8) -> u8
     settled
 }
 
-// A word heard in an RX slot: the oldest waiting position is settled.
-fn heard_rx(p: Phase, word: u8) -> Heard
-    ensures { λ r. ⌜ r ≡ heardRx p word ⌝ }
+// A word heard in an RX slot: the oldest waiting position is settled, and of the wait `left` remains.
+fn heard_rx(p: Phase, word: u8, left: u8) -> Heard
+    ensures { λ r. ⌜ r ≡ heardRx p word left ⌝ }
 {
     let mark = settled(p.first, word);
     let after = Phase {
@@ -204,44 +196,78 @@ fn heard_rx(p: Phase, word: u8) -> Heard
         third: p.third,
         dx: true,
         printing: printing_after(p.printing, mark),
+        wait: left,
     };
     prints_at(Hearing::InPhase(after), printed_of(p.printing, mark))
 }
 
-// Two successive α.
-fn two_alpha(word: u8, before: u8) -> bool
-    ensures { λ r. ⌜ r ≡ twoAlpha word before ⌝ }
+// How many words are still to be heard behind a DX word and the one before it: three behind two successive α.
+fn wait_after(before: u8, word: u8) -> u8
+    ensures { λ r. ⌜ r ≡ waitAfter before word ⌝ }
 {
     if word != signals::ALPHA {
-        return false;
+        return 0;
     }
-    before == signals::ALPHA
+    if before != signals::ALPHA {
+        return 0;
+    }
+    3
 }
 
-// A word heard in a DX slot: it waits, or it is the second α in succession and ends reception.
+// A word heard in a DX slot: it waits for its RX; as the second α in succession it begins the wait that ends reception.
 fn heard_dx(p: Phase, word: u8) -> Heard
     ensures { λ r. ⌜ r ≡ heardDx p word ⌝ }
 {
-    let third = p.third;
-    if two_alpha(word, third) {
-        let mark = settled_alone(p.second);
-        return prints_at(
-            Hearing::Searching(0, Phasing::One),
-            printed_of(p.printing, mark),
-        );
-    }
     let after = Phase {
         first: p.second,
-        second: third,
+        second: p.third,
         third: word,
         dx: false,
         printing: p.printing,
+        wait: wait_after(p.third, word),
     };
     hears(Hearing::InPhase(after))
 }
 
-// One step of a receiver of mode B (01, Mode B): it hears a word and answers the receiver and at most one printed signal, 255 for an
-// error, 0 for none. Refuses 4 for a search run over 3, and nothing else; the receiver is then as it was.
+// One of the three words behind the second α. The first is the RX of the position that waits; the others print nothing, and behind the
+// last it searches.
+fn waited(p: Phase, word: u8) -> Heard
+    ensures { λ r. ⌜ r ≡ waited p word ⌝ }
+{
+    let wait = p.wait;
+    if wait == 3 {
+        return heard_rx(p, word, 2);
+    }
+    if wait == 2 {
+        let after = Phase {
+            first: p.first,
+            second: p.second,
+            third: p.third,
+            dx: false,
+            printing: p.printing,
+            wait: 1,
+        };
+        return hears(Hearing::InPhase(after));
+    }
+    hears(Hearing::Searching(0, Phasing::One))
+}
+
+// A word heard in phase: within the wait the wait says what it is, else the slot.
+fn heard_in_phase(p: Phase, word: u8) -> Heard
+    ensures { λ r. ⌜ r ≡ heardInPhase p word ⌝ }
+{
+    let wait = p.wait;
+    if wait != 0 {
+        return waited(p, word);
+    }
+    if p.dx {
+        return heard_dx(p, word);
+    }
+    heard_rx(p, word, 0)
+}
+
+// One step of a receiver of mode B (01, Mode B; 02, T-03): it hears a word and answers the receiver and at most one printed signal, 255
+// for an error, 0 for none. Refuses 4 for a search run or a remaining wait over 3, and nothing else; the receiver is then as it was.
 pub fn receive(receiver: Receiver, word: u8) -> Received
     ensures { λ r. ⌜ Receives receiver word r ⌝ }
 {
@@ -254,10 +280,11 @@ pub fn receive(receiver: Receiver, word: u8) -> Received
             Received::Done(searched(so_far, last, word))
         }
         Hearing::InPhase(p) => {
-            if p.dx {
-                return Received::Done(heard_dx(p, word));
+            let wait = p.wait;
+            if 3 < wait {
+                return Received::BadReceiver(receiver);
             }
-            Received::Done(heard_rx(p, word))
+            Received::Done(heard_in_phase(p, word))
         }
     }
 }
