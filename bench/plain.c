@@ -723,7 +723,7 @@ static const uint16_t SETTLED[256] = {
 
 struct receiver plain_fresh_receiver(void)
 {
-    return (struct receiver){ 0, PHASE_SEARCHING, 0, 0, 0 };
+    return (struct receiver){ 0, PHASE_SEARCHING, 0, 0, 0, 0 };
 }
 
 static inline unsigned prints(struct receiver *receiver, unsigned settled)
@@ -755,34 +755,55 @@ static inline unsigned searches(struct receiver *receiver, unsigned word)
     return 0;
 }
 
+/* The oldest waiting position is settled by its DX and this word. */
+static inline unsigned settles(struct receiver *receiver, unsigned word)
+{
+    unsigned first = INTACT[receiver->waiting >> 16 & 0xFF];
+    unsigned heard = INTACT[word];
+    unsigned both = first & heard;
+    unsigned settled = first | heard;
+
+    /* Two intact words have a one in common, being four of seven each: they
+     * differ where `both` is neither nothing nor all. */
+    if (both - 1 < settled - 1)
+        settled = first == WORD_RQ && heard == WORD_ALPHA
+                  ? SETTLED_PHASING : SETTLED_ERROR;
+    return prints(receiver, settled);
+}
+
+/* One of the three words behind the second alpha. */
+static unsigned waits(struct receiver *receiver, unsigned word)
+{
+    if (receiver->wait > 3)
+        return RECEIVE_REFUSED;
+    receiver->wait--;
+    if (receiver->wait == 2)
+        return settles(receiver, word);
+    if (receiver->wait == 0) {
+        receiver->phase = PHASE_SEARCHING;
+        receiver->run = 0;
+    }
+    return 0;
+}
+
 unsigned plain_receive(struct receiver *receiver, uint8_t word)
 {
-    uint32_t waiting = receiver->waiting;
-
     if (receiver->phase == PHASE_RX) {
-        unsigned first = INTACT[waiting >> 16 & 0xFF];
-        unsigned heard = INTACT[word];
-        unsigned both = first & heard;
-        unsigned settled = first | heard;
-
-        /* Two intact words have a one in common, being four of seven each: they
-         * differ where `both` is neither nothing nor all. */
-        if (both - 1 < settled - 1)
-            settled = first == WORD_RQ && heard == WORD_ALPHA
-                      ? SETTLED_PHASING : SETTLED_ERROR;
         receiver->phase = PHASE_DX;
-        return prints(receiver, settled);
+        return settles(receiver, word);
     }
     if (receiver->phase == PHASE_DX) {
-        waiting = waiting << 8 | word;
-        if (UNLIKELY((waiting & 0xFFFF) == (WORD_ALPHA << 8 | WORD_ALPHA))) {
-            receiver->phase = PHASE_SEARCHING;
-            receiver->run = 0;
-            return prints(receiver, INTACT[waiting >> 16 & 0xFF]);
-        }
+        uint32_t waiting = receiver->waiting << 8 | word;
+
         receiver->waiting = waiting;
         receiver->phase = PHASE_RX;
+        if (UNLIKELY((waiting & 0xFFFF) == (WORD_ALPHA << 8 | WORD_ALPHA))) {
+            receiver->phase = PHASE_WAITING;
+            receiver->wait = 3;
+        }
         return 0;
     }
+    if (UNLIKELY(receiver->phase == PHASE_WAITING))
+        return waits(receiver, word);
     return searches(receiver, word);
 }

@@ -126,15 +126,17 @@ step_answer plain_step(struct station *station, uint32_t burst, uint64_t offer);
 
 /* --- The receiver of mode B --- */
 
-enum { PHASE_SEARCHING, PHASE_DX, PHASE_RX };
+enum { PHASE_SEARCHING, PHASE_DX, PHASE_RX, PHASE_WAITING };
 
 struct receiver {
     uint32_t waiting;   /* in phase: the last DX words as they were heard, the
                            latest in the low byte */
-    uint8_t phase;      /* searching, or what the next slot is */
+    uint8_t phase;      /* searching, what the next slot is, or waiting: behind two
+                           successive alpha in DX */
     uint8_t run;        /* searching: how many in a row alternate, 0 to 3 */
     uint8_t last;       /* searching, run over 0: the last of them, alpha or RQ */
     uint8_t printing;   /* in phase: 255 once printing has begun, before that 0 */
+    uint8_t wait;       /* waiting: how many words are still to be heard, 3 to 1 */
 };
 
 /* What plain_receive answers for refusal 4 0. */

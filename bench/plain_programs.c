@@ -493,21 +493,28 @@ static void call_receive(const uint8_t *r)
         receiver.last = r[3] % 2 == 0 ? WORD_ALPHA : WORD_RQ;
     } else {
         receiver.waiting = burst_of(r[6], r[5], r[4]);
-        receiver.phase = r[7] % 2 == 0 ? PHASE_DX : PHASE_RX;
+        receiver.phase = r[9] != 0 ? PHASE_WAITING : r[7] % 2 == 0 ? PHASE_DX : PHASE_RX;
         receiver.printing = r[8] % 2 == 0 ? 0 : 255;
+        receiver.wait = r[9];
     }
     was = receiver;
     printed = plain_receive(&receiver, r[10]);
     if (printed == RECEIVE_REFUSED) {
         int changed = receiver.waiting != was.waiting || receiver.phase != was.phase
                       || receiver.run != was.run || receiver.last != was.last
-                      || receiver.printing != was.printing;
+                      || receiver.printing != was.printing || receiver.wait != was.wait;
 
         put("refused 4 0%s\n", changed ? " and changed" : "");
     } else if (receiver.phase == PHASE_SEARCHING) {
         put("searching %u %s | %u\n", receiver.run,
                receiver.run == 0 ? "none" : receiver.last == WORD_ALPHA ? "alpha"
                : receiver.last == WORD_RQ ? "RQ" : "another", printed);
+    } else if (receiver.phase == PHASE_WAITING) {
+        /* what can no longer matter is 0: at 3 one position waits, and then none */
+        put("phase %u 0 0 %s %u %u | %u\n",
+               receiver.wait == 3 ? word_of(receiver.waiting, 2) : 0,
+               receiver.wait == 2 ? "dx" : "rx",
+               receiver.wait == 3 && receiver.printing != 0 ? 1u : 0u, receiver.wait, printed);
     } else {
         int next_is_dx = receiver.phase == PHASE_DX;
 

@@ -4,16 +4,16 @@
 --     StepLaws          one slot of a receiver in phase, and what a position is settled to
 --     QuietLaws         behind the end nothing is printed
 --     SearchLaws        four phasing signals kept before the text bring the receiver into phase
+--     ReadingLaws       no wrong signal, under any damage that is never one of the 35
 --     CopyLaws          the perfect copy
 --     Needs             each clause of its premise is needed
---     ReadingLaws       no wrong signal, under any damage that is never one of the 35
 --     ReadingExamples   what a reader sees at a lost phasing, a break and a damaged end
 pub mod WordLaws
 pub mod HearLaws
 pub mod StepLaws
 pub mod QuietLaws
 pub mod SearchLaws
+pub mod ReadingLaws
 pub mod CopyLaws
 pub mod Needs
-pub mod ReadingLaws
 pub mod ReadingExamples

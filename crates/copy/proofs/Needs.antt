@@ -15,11 +15,11 @@ use Rattle.laws.proofs.Below.{every, at-below, both-left, both-right}
 use Rattle.signals.specs.Units.{intactOf, onesOf}
 use Rattle.signals.specs.Meaning.{meaningOf, trafficOf, wordNo, errorMark}
 use Rattle.mode_b.specs.Sender.{carriageReturn, lineFeed, withBreaks, positionsOf, slotsFrom, slotsOf}
-use Rattle.mode_b.specs.Receiver.{settled, settledAlone, heardDx, heardRx}
+use Rattle.mode_b.specs.Receiver.{settled, heardDx, heardRx, waited}
 use Rattle.signals.specs.Damage.{Damage, kept, hurt, NoSignal}
 use Rattle.copy.specs.Run.{Damages, heardFrom, listen, copyFrom}
 use Rattle.copy.specs.Premise.{Text, Clause, Holds, Needed}
-use Rattle.copy.specs.Premise.Clause.{from-0, phasing, copies, last, first-α, second-α, no-signal}
+use Rattle.copy.specs.Premise.Clause.{from-0, phasing, copies, no-signal}
 
 abbrev E : List ℕ
 E = wordNo 5 ∷ []
@@ -44,9 +44,6 @@ abbrev passes : Clause → ℕ → ℕ → List ℕ → Bool
 passes from-0 start v ks = eqb start 0
 passes phasing start v ks = every (λ k. isKept (hurtAt v ks k)) 4 0
 passes copies start v ks = every (hasCopy (hurtAt v ks)) 36 0
-passes last start v ks = isKept (hurtAt v ks 36)
-passes first-α start v ks = isKept (hurtAt v ks 38)
-passes second-α start v ks = isKept (hurtAt v ks 40)
 passes no-signal start v ks = eqb (meaningOf v) 0
 
 is-kept : (h : Damage) → T (isKept h) → h ≡ kept
@@ -77,9 +74,6 @@ holds phasing start v ks t =
       intact = λ j h. rw zero-add (is-kept (hurtAt v ks j) (at-below (λ k. isKept (hurtAt v ks k)) 4 t j h));
     }
 holds copies start v ks t = λ p h. has-copy (hurtAt v ks) p (at-below (hasCopy (hurtAt v ks)) 36 t p h)
-holds last start v ks t = is-kept (hurtAt v ks 36) t
-holds first-α start v ks t = is-kept (hurtAt v ks 38) t
-holds second-α start v ks t = is-kept (hurtAt v ks 40) t
 holds no-signal start v ks t = λ k. no-signal-heard v (eqb→eq (meaningOf v) 0 t) (among ks k)
 
 -- all clauses but one, by one test
@@ -87,35 +81,26 @@ abbrev numberOf : Clause → ℕ
 numberOf from-0 = 0
 numberOf phasing = 1
 numberOf copies = 2
-numberOf last = 3
-numberOf first-α = 4
-numberOf second-α = 5
-numberOf no-signal = 6
+numberOf no-signal = 3
 
 abbrev clauseNo : ℕ → Clause
 clauseNo zero = from-0
 clauseNo (suc zero) = phasing
 clauseNo (suc (suc zero)) = copies
-clauseNo (suc (suc (suc zero))) = last
-clauseNo (suc (suc (suc (suc zero)))) = first-α
-clauseNo (suc (suc (suc (suc (suc zero))))) = second-α
-clauseNo (suc (suc (suc (suc (suc (suc n)))))) = no-signal
+clauseNo (suc (suc (suc n))) = no-signal
 
-numbered : (c : Clause) → (clauseNo (numberOf c) ≡ c) × (numberOf c < 7)
+numbered : (c : Clause) → (clauseNo (numberOf c) ≡ c) × (numberOf c < 4)
 numbered from-0 = (refl, lit< tt)
 numbered phasing = (refl, lit< tt)
 numbered copies = (refl, lit< tt)
-numbered last = (refl, lit< tt)
-numbered first-α = (refl, lit< tt)
-numbered second-α = (refl, lit< tt)
 numbered no-signal = (refl, lit< tt)
 
 abbrev passesBut : Clause → ℕ → ℕ → List ℕ → ℕ → Bool
 passesBut c start v ks i = eqb i (numberOf c) || passes (clauseNo i) start v ks
 
-holds-but : (c : Clause) (start v : ℕ) (ks : List ℕ) → T (every (passesBut c start v ks) 7 0) → (o : Clause) → (o ≡ c → ⊥) → Holds o start E (hurtAt v ks)
+holds-but : (c : Clause) (start v : ℕ) (ks : List ℕ) → T (every (passesBut c start v ks) 4 0) → (o : Clause) → (o ≡ c → ⊥) → Holds o start E (hurtAt v ks)
 holds-but c start v ks t o n =
-    let at = at-below (passesBut c start v ks) 7 t (numberOf o) (numbered o .1) in
+    let at = at-below (passesBut c start v ks) 4 t (numberOf o) (numbered o .1) in
     go (eqb (numberOf o) (numberOf c)) refl at
   where
     go : (b : Bool) → eqb (numberOf o) (numberOf c) ≡ b → T (b || passes (clauseNo (numberOf o)) start v ks) → Holds o start E (hurtAt v ks)
@@ -134,7 +119,7 @@ Prints start d printed = copyFrom start E d ≡ printed
 
 -- it listens from slot 29
 late-run : Prints 29 (hurtAt 0 []) []
-unfolding slotsOf positionsOf slotsFrom withBreaks heardFrom listen heardDx heardRx settled settledAlone intactOf onesOf trafficOf meaningOf
+unfolding slotsOf positionsOf slotsFrom withBreaks heardFrom listen heardDx heardRx waited settled intactOf onesOf trafficOf meaningOf
 late-run = refl
 
 -- every fourth slot is lost
@@ -142,35 +127,21 @@ no-four : List ℕ
 no-four = 3 ∷ 7 ∷ 11 ∷ 15 ∷ 19 ∷ 23 ∷ 27 ∷ 31 ∷ []
 
 unphased-run : Prints 0 (hurtAt 0 no-four) []
-unfolding no-four slotsOf positionsOf slotsFrom withBreaks heardFrom listen heardDx heardRx settled settledAlone intactOf onesOf trafficOf meaningOf
+unfolding no-four slotsOf positionsOf slotsFrom withBreaks heardFrom listen heardDx heardRx waited settled intactOf onesOf trafficOf meaningOf
 unphased-run = refl
 
 -- both copies of the line feed are lost
 uncopied-run : Prints 0 (hurtAt 0 (34 ∷ 39 ∷ [])) (carriageReturn ∷ errorMark ∷ E)
-unfolding slotsOf positionsOf slotsFrom withBreaks heardFrom listen heardDx heardRx settled settledAlone intactOf onesOf trafficOf meaningOf
+unfolding slotsOf positionsOf slotsFrom withBreaks heardFrom listen heardDx heardRx waited settled intactOf onesOf trafficOf meaningOf
 uncopied-run = refl
-
--- the DX of E is lost: its RX comes after the end
-last-run : Prints 0 (hurtAt 0 (36 ∷ [])) (carriageReturn ∷ lineFeed ∷ errorMark ∷ [])
-unfolding slotsOf positionsOf slotsFrom withBreaks heardFrom listen heardDx heardRx settled settledAlone intactOf onesOf trafficOf meaningOf
-last-run = refl
-
--- the DX of an α position is lost: it is settled alone, by a later end
-first-α-run : Prints 0 (hurtAt 0 (38 ∷ [])) (carriageReturn ∷ lineFeed ∷ wordNo 5 ∷ errorMark ∷ [])
-unfolding slotsOf positionsOf slotsFrom withBreaks heardFrom listen heardDx heardRx settled settledAlone intactOf onesOf trafficOf meaningOf
-first-α-run = refl
-
-second-α-run : Prints 0 (hurtAt 0 (40 ∷ [])) (carriageReturn ∷ lineFeed ∷ wordNo 5 ∷ errorMark ∷ [])
-unfolding slotsOf positionsOf slotsFrom withBreaks heardFrom listen heardDx heardRx settled settledAlone intactOf onesOf trafficOf meaningOf
-second-α-run = refl
 
 -- A is heard for the RX of the line feed
 signal-run : Prints 0 (hurtAt (wordNo 1) (39 ∷ [])) (carriageReturn ∷ errorMark ∷ E)
-unfolding slotsOf positionsOf slotsFrom withBreaks heardFrom listen heardDx heardRx settled settledAlone intactOf onesOf trafficOf meaningOf
+unfolding slotsOf positionsOf slotsFrom withBreaks heardFrom listen heardDx heardRx waited settled intactOf onesOf trafficOf meaningOf
 signal-run = refl
 
--- So the copy is not perfect: the lengths differ, or the second signals, or the third.
-module _ (c : Clause) (start v : ℕ) (ks printed : List ℕ) (passed : T (every (passesBut c start v ks) 7 0)) (run : Prints start (hurtAt v ks) printed) where
+-- So the copy is not perfect: the lengths differ, or the second signals.
+module _ (c : Clause) (start v : ℕ) (ks printed : List ℕ) (passed : T (every (passesBut c start v ks) 4 0)) (run : Prints start (hurtAt v ks) printed) where
   needed : (f : List ℕ → ℕ) → (f printed ≡ f (carriageReturn ∷ lineFeed ∷ E) → ⊥) → Needed c
   needed f n =
       record {
@@ -191,7 +162,4 @@ unfolding no-four meaningOf
 each-clause-needed from-0 = needed from-0 29 0 [] _ tt late-run (λ l. length l) (λ e. omega arith)
 each-clause-needed phasing = needed phasing 0 0 no-four _ tt unphased-run (λ l. length l) (λ e. omega arith)
 each-clause-needed copies = needed copies 0 0 (34 ∷ 39 ∷ []) _ tt uncopied-run (nth 1) (λ e. omega arith)
-each-clause-needed last = needed last 0 0 (36 ∷ []) _ tt last-run (nth 2) (λ e. omega arith)
-each-clause-needed first-α = needed first-α 0 0 (38 ∷ []) _ tt first-α-run (λ l. length l) (λ e. omega arith)
-each-clause-needed second-α = needed second-α 0 0 (40 ∷ []) _ tt second-α-run (λ l. length l) (λ e. omega arith)
 each-clause-needed no-signal = needed no-signal 0 (wordNo 1) (39 ∷ []) _ tt signal-run (nth 1) (λ e. omega arith)

@@ -1,5 +1,5 @@
--- Behind the end: a receiver that searches and hears no RQ prints nothing. Assumes nothing.
-use mathlib.Core.Path.{_≡_, refl}
+-- Behind the end: the words that are left of the wait print nothing, nor does a receiver that searches and hears no RQ. Assumes nothing.
+use mathlib.Core.Path.{_≡_, refl, _∙_}
 use mathlib.Core.Bool.{Bool, true, false}
 use mathlib.Core.List.{List, [], _∷_}
 use Prim.Native.Nat.{ℕ, suc}
@@ -12,7 +12,7 @@ use Rattle.mode_b.specs.Receiver.{freshReceiver, receiving, receiverAfter}
 use Rattle.signals.specs.Damage.{Damage, kept, hurt, arrives, NoSignal}
 use Rattle.copy.specs.Run.{Damages, printsOf, heardFrom, listen}
 use Rattle.copy.proofs.WordLaws.{mutilated, Traffic}
-use Rattle.copy.proofs.StepLaws.{seeking}
+use Rattle.copy.proofs.StepLaws.{seeking, waitingFor, wait-ends}
 
 -- After the end no RQ is heard, so the receiver that searches anew stays at the search.
 abbrev NoRq : List ℕ → Type 0
@@ -70,6 +70,11 @@ module _ (d : Damages) (good : (k : ℕ) → NoSignal (d k)) where
   no-rq (Position.idle ∷ ps) i k before last b l =
       (rx-not-rq Position.idle tt (d k) (good k), (rx-not-rq before b (d (suc k)) (good (suc k)), no-rq ps i (suc (suc k)) last Position.idle l tt))
 
-  -- the RX slot behind the α that ends reception, and what comes after it
-  pub quiet-behind : (j : ℕ) (before q r : Position) (ps : List Position) → Word before → Word q → Word r → AllIdle ps → listen freshReceiver (arrives (d j) (rxOf before) ∷ heardFrom d (suc j) (slotsFrom q r ps)) ≡ []
-  quiet-behind j before q r ps s t u i = silent _ (rx-not-rq before s (d j) (good j), no-rq ps i (suc j) q r t u) freshReceiver (none Phasing.One)
+  -- where the position before the two α has been settled: the last two words of the wait, if they are sent, and what comes after them
+  pub quiet-behind : (ps : List Position) → AllIdle ps → (k : ℕ) (q r : Position) → Word q → Word r → (a b c : ℕ) (dx printing : Bool) → listen (waitingFor 2 a b c dx printing) (heardFrom d k (slotsFrom q r ps)) ≡ []
+  unfolding heardFrom slotsFrom
+  quiet-behind [] i k q r s t a b c dx printing = unfold listen in refl
+  quiet-behind (Position.phasing ∷ ps) i k q r s t a b c dx printing = absurd i
+  quiet-behind (Position.signal w ∷ ps) i k q r s t a b c dx printing = absurd i
+  quiet-behind (Position.idle ∷ ps) i k q r s t a b c dx printing =
+      wait-ends a b c dx printing _ _ _ ∙ silent _ (no-rq ps i (suc (suc k)) r Position.idle t tt) freshReceiver (none Phasing.One)

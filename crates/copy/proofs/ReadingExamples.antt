@@ -3,14 +3,14 @@
 use mathlib.Core.Path.{_≡_, refl}
 use mathlib.Core.Bool.{_&&_, _||_}
 use mathlib.Core.List.{List, [], _∷_, _++_}
-use Prim.Native.Nat.{ℕ, _+_}
+use Prim.Native.Nat.{ℕ, _+_, _%_}
 use lib.Dec.{eqb, leb, ltb}
-use lib.ListN.{replicate}
+use lib.ListN.{replicate, take}
 use Rattle.laws.specs.Choice.{if_then_else_}
 use Rattle.signals.specs.Units.{intactOf, onesOf}
 use Rattle.signals.specs.Meaning.{meaningOf, trafficOf, wordNo, errorMark}
 use Rattle.mode_b.specs.Sender.{carriageReturn, lineFeed, withBreaks, positionsOf, slotsFrom, slotsOf}
-use Rattle.mode_b.specs.Receiver.{settled, settledAlone, heardDx, heardRx}
+use Rattle.mode_b.specs.Receiver.{freshReceiver, settled, heardDx, heardRx, waited}
 use Rattle.signals.specs.Damage.{kept, hurt}
 use Rattle.copy.specs.Run.{Damages, heardFrom, listen, copyFrom}
 
@@ -26,21 +26,62 @@ lostFrom k n j = if leb k j && ltb j (k + n) then hurt 0 else kept
 
 -- lost phasing: it comes into phase in the break, and prints from the next return on
 lost-phasing : copyFrom 0 (Es ++ A) (lostFrom 0 32) ≡ A
-unfolding slotsOf positionsOf slotsFrom withBreaks heardFrom listen heardDx heardRx settled settledAlone intactOf onesOf trafficOf meaningOf
+unfolding slotsOf positionsOf slotsFrom withBreaks heardFrom listen heardDx heardRx waited settled intactOf onesOf trafficOf meaningOf
 lost-phasing = refl
 
 -- a break: its first position has both copies lost, and is an error mark between the lines
 lost-break : copyFrom 0 (Es ++ A) (λ k. if eqb k 224 || eqb k 229 then hurt 0 else kept) ≡ carriageReturn ∷ lineFeed ∷ (Es ++ (errorMark ∷ A))
-unfolding slotsOf positionsOf slotsFrom withBreaks heardFrom listen heardDx heardRx settled settledAlone intactOf onesOf trafficOf meaningOf
+unfolding slotsOf positionsOf slotsFrom withBreaks heardFrom listen heardDx heardRx waited settled intactOf onesOf trafficOf meaningOf
 lost-break = refl
 
--- a damaged end, of the text E: slots 36 to 40 hold the DX of E and of the first two α. The RX of E is heard, and so is that of the
--- first α; the second α stands right before the two that end reception, and is an error mark.
-damaged-end : copyFrom 0 (wordNo 5 ∷ []) (lostFrom 36 5) ≡ carriageReturn ∷ lineFeed ∷ wordNo 5 ∷ errorMark ∷ []
-unfolding slotsOf positionsOf slotsFrom withBreaks heardFrom listen heardDx heardRx settled settledAlone intactOf onesOf trafficOf meaningOf
+-- The ends are those of the text E, whose DX is in slot 36 and whose RX in slot 41; the α positions have their DX in slots 38, 40 and
+-- so on to 70, the last but one slot, and their RX five slots later.
+abbrev E : List ℕ
+E = wordNo 5 ∷ []
+
+abbrev lostAt : List ℕ → Damages
+lostAt [] j = kept
+lostAt (k ∷ ks) j = if eqb j k then hurt 0 else lostAt ks j
+
+-- the last letter: its DX is lost, and its RX, the word behind the second α, is printed
+last-letter : copyFrom 0 E (lostAt (36 ∷ [])) ≡ carriageReturn ∷ lineFeed ∷ E
+unfolding slotsOf positionsOf slotsFrom withBreaks heardFrom listen heardDx heardRx waited settled intactOf onesOf trafficOf meaningOf
+last-letter = refl
+
+-- with both its copies lost it is an error mark
+last-lost : copyFrom 0 E (lostAt (36 ∷ 41 ∷ [])) ≡ carriageReturn ∷ lineFeed ∷ errorMark ∷ []
+unfolding slotsOf positionsOf slotsFrom withBreaks heardFrom listen heardDx heardRx waited settled intactOf onesOf trafficOf meaningOf
+last-lost = refl
+
+-- a damaged end: the DX of E and of the first two α are lost. Each has its RX, and the end comes two positions later: a perfect copy.
+damaged-end : copyFrom 0 E (lostFrom 36 5) ≡ carriageReturn ∷ lineFeed ∷ E
+unfolding slotsOf positionsOf slotsFrom withBreaks heardFrom listen heardDx heardRx waited settled intactOf onesOf trafficOf meaningOf
 damaged-end = refl
 
+-- an α position before the end with both copies lost is an error mark; behind the end such a loss shows nowhere
+lost-α : copyFrom 0 E (lostAt (38 ∷ 43 ∷ [])) ≡ carriageReturn ∷ lineFeed ∷ wordNo 5 ∷ errorMark ∷ []
+unfolding slotsOf positionsOf slotsFrom withBreaks heardFrom listen heardDx heardRx waited settled intactOf onesOf trafficOf meaningOf
+lost-α = refl
+
+lost-behind : copyFrom 0 E (lostAt (42 ∷ 47 ∷ [])) ≡ carriageReturn ∷ lineFeed ∷ E
+unfolding slotsOf positionsOf slotsFrom withBreaks heardFrom listen heardDx heardRx waited settled intactOf onesOf trafficOf meaningOf
+lost-behind = refl
+
 -- nothing is heard from the DX of E on: E is an error mark, and so is each α position of which an RX is due
-lost-end : copyFrom 0 (wordNo 5 ∷ []) (lostFrom 36 36) ≡ carriageReturn ∷ lineFeed ∷ replicate 16 errorMark
-unfolding slotsOf positionsOf slotsFrom withBreaks heardFrom listen heardDx heardRx settled settledAlone intactOf onesOf trafficOf meaningOf
+lost-end : copyFrom 0 E (lostFrom 36 36) ≡ carriageReturn ∷ lineFeed ∷ replicate 16 errorMark
+unfolding slotsOf positionsOf slotsFrom withBreaks heardFrom listen heardDx heardRx waited settled intactOf onesOf trafficOf meaningOf
 lost-end = refl
+
+-- Only the last two α are heard in DX, in slots 68 and 70: the sender stops one word later, within the wait. The copy is perfect; and
+-- of what comes behind two words, whatever they are, are still of the wait.
+abbrev only-last-two : Damages
+only-last-two k = if leb 38 k && ltb k 68 && eqb (k % 2) 0 then hurt 0 else kept
+
+stops-within-the-wait : (v w : ℕ) (ws : List ℕ) → listen freshReceiver (heardFrom only-last-two 0 (slotsOf E) ++ v ∷ w ∷ ws) ≡ carriageReturn ∷ lineFeed ∷ wordNo 5 ∷ listen freshReceiver ws
+unfolding slotsOf positionsOf slotsFrom withBreaks heardFrom listen heardDx heardRx waited settled intactOf onesOf trafficOf meaningOf
+stops-within-the-wait v w ws = refl
+
+-- in the ordinary end three words are of the wait, and no fourth
+three-words : (v w : ℕ) (ws : List ℕ) → listen freshReceiver (heardFrom (lostAt []) 0 (take 41 (slotsOf E)) ++ wordNo 5 ∷ v ∷ w ∷ ws) ≡ carriageReturn ∷ lineFeed ∷ wordNo 5 ∷ listen freshReceiver ws
+unfolding slotsOf positionsOf slotsFrom withBreaks heardFrom listen heardDx heardRx waited settled intactOf onesOf trafficOf meaningOf
+three-words v w ws = refl

@@ -3,7 +3,7 @@ use mathlib.Core.Path.{_≡_, refl, ap, sym, _∙_}
 use mathlib.Core.Bool.{Bool, true, false, _&&_, false≢true}
 use mathlib.Core.Logic.{_↔_, inl, inr}
 use mathlib.Core.List.{List, [], _∷_, _++_}
-use Prim.Native.Nat.{ℕ, suc}
+use Prim.Native.Nat.{ℕ, suc, _+_}
 use native.Mathlib.Omega.{arith}
 use lib.Dec.{eqb}
 use lib.ListN.{replicate}
@@ -13,19 +13,18 @@ use Rattle.signals.specs.Meaning.{trafficOf, meaningOf, alpha, rq, errorMark}
 use Rattle.mode_b.specs.declared.Phasing.{Phasing}
 use Rattle.mode_b.specs.declared.Receiver.{Receiver}
 use Rattle.mode_b.specs.Sender.{Position, dxOf, rxOf, carriageReturn, lineFeed, withBreaks, positionsOf, slotsFrom, slotsOf}
-use Rattle.mode_b.specs.Receiver.{Settled, settled, settledAlone, printedOf, printingAfter, begins, heardRx, freshReceiver, receiving, receiverAfter}
+use Rattle.mode_b.specs.Receiver.{Settled, settled, printedOf, printingAfter, begins, heardRx, freshReceiver, receiving, receiverAfter}
 use Rattle.signals.specs.Damage.{Damage, kept, hurt, arrives, NoSignal}
 use Rattle.copy.specs.Run.{Damages, one, printsOf, heardFrom, listen, copyFrom, deafBefore}
 use Rattle.copy.specs.Premise.{Text}
 use Rattle.copy.specs.Reading.{twoOn, fiveOn, damaged, intactα, endsBehind, lost, seen, seenFrom, Printed, nothing, here, behind, InOrder, done, passed, sent, marked}
-use Rattle.copy.proofs.WordLaws.{mutilated, Traffic}
-use Rattle.copy.proofs.StepLaws.{inPhase, seeking, dx-ends, waits-settles, settles-counted, settles-signal, settles-phasing, settles-idle, settles-error, settles-unbegun, Quiet}
+use Rattle.copy.proofs.WordLaws.{mutilated, Traffic, traffic}
+use Rattle.copy.proofs.StepLaws.{inPhase, waitingFor, leftAt, seeking, dx-rx, settles-counted, settles-signal, settles-phasing, settles-idle, settles-error, settles-unbegun, Quiet}
 use Rattle.copy.proofs.QuietLaws.{Word, AllIdle, rx-not-rq, quiet-behind}
 use Rattle.copy.proofs.HearLaws.{late-is-deaf, deaf-no-signal}
-use Rattle.copy.proofs.CopyLaws.{AllSent, breaks-sent}
 
 -- the positions of a broadcast: phasing and traffic, and then α only
-abbrev Ordered : List Position → Type 0
+abbrev pub Ordered : List Position → Type 0
 Ordered [] = Unit {0}
 Ordered (Position.phasing ∷ ps) = Ordered ps
 Ordered (Position.signal w ∷ ps) = Traffic w × Ordered ps
@@ -42,7 +41,7 @@ word Position.phasing ps o = tt
 word (Position.signal w) ps o = o .0
 word Position.idle ps o = tt
 
-rest : (p : Position) (ps : List Position) → Ordered (p ∷ ps) → Ordered ps
+pub rest : (p : Position) (ps : List Position) → Ordered (p ∷ ps) → Ordered ps
 rest Position.phasing ps o = o
 rest (Position.signal w) ps o = o .1
 rest Position.idle ps o = idle-ordered ps o
@@ -53,7 +52,7 @@ idle-rest (Position.signal w) h ps e o = absurd (false≢true e)
 idle-rest Position.idle h ps e o = o
 
 -- α is heard in a DX slot exactly where it is sent there and kept
-alpha-heard : (p : Position) → Word p → (h : Damage) → NoSignal h → eqb (arrives h (dxOf p)) alpha ≡ intactα p h
+pub alpha-heard : (p : Position) → Word p → (h : Damage) → NoSignal h → eqb (arrives h (dxOf p)) alpha ≡ intactα p h
 alpha-heard Position.phasing s kept n = refl
 alpha-heard (Position.signal w) s kept n = s .not-alpha
 alpha-heard Position.idle s kept n = refl
@@ -61,8 +60,11 @@ alpha-heard Position.phasing s (hurt v) n = mutilated v n .not-alpha
 alpha-heard (Position.signal w) s (hurt v) n = mutilated v n .not-alpha
 alpha-heard Position.idle s (hurt v) n = mutilated v n .not-alpha
 
--- What a position prints once printing has begun, by its copies and by its DX alone.
-sees : (p : Position) → Word p → (a b : Damage) → NoSignal a → NoSignal b → (one (printedOf true (settled (arrives a (dxOf p)) (arrives b (rxOf p)))) ≡ seen p (damaged a && damaged b)) × (printingAfter true (settled (arrives a (dxOf p)) (arrives b (rxOf p))) ≡ true)
+-- What a position prints once printing has begun.
+abbrev Sees : Position → Damage → Damage → Bool → Type 0
+Sees p a b printing = (one (printedOf printing (settled (arrives a (dxOf p)) (arrives b (rxOf p)))) ≡ seen p (damaged a && damaged b)) × (printingAfter printing (settled (arrives a (dxOf p)) (arrives b (rxOf p))) ≡ true)
+
+sees : (p : Position) → Word p → (a b : Damage) → NoSignal a → NoSignal b → Sees p a b true
 sees Position.phasing s kept b m n = settles-phasing true kept b m n (inl refl)
 sees Position.phasing s (hurt u) kept m n = settles-phasing true (hurt u) kept m n (inr refl)
 sees Position.phasing s (hurt u) (hurt v) m n = rw (settles-error u v (mutilated u m) (mutilated v n)) (refl, refl)
@@ -74,44 +76,40 @@ sees Position.idle s kept b m n = settles-idle true kept b m n (inl refl)
 sees Position.idle s (hurt u) kept m n = settles-idle true (hurt u) kept m n (inr refl)
 sees Position.idle s (hurt u) (hurt v) m n = rw (settles-error u v (mutilated u m) (mutilated v n)) (refl, refl)
 
-sees-alone : (p : Position) → Word p → (a : Damage) → NoSignal a → one (printedOf true (settledAlone (arrives a (dxOf p)))) ≡ seen p (damaged a)
-unfolding settledAlone intactOf onesOf trafficOf meaningOf
-sees-alone Position.phasing s kept m = refl
-sees-alone (Position.signal w) s kept m = rw (s .is-intact, s .is-traffic, s .not-zero)
-sees-alone Position.idle s kept m = refl
-sees-alone Position.phasing s (hurt u) m = rw (mutilated u m .not-intact)
-sees-alone (Position.signal w) s (hurt u) m = rw (mutilated u m .not-intact)
-sees-alone Position.idle s (hurt u) m = rw (mutilated u m .not-intact)
-
--- Before printing has begun: nothing is printed, or it begins.
+-- Before printing has begun: nothing is printed, or it begins with a return or line feed that is not lost.
 data First (p : Position) (missing : Bool) (s : Settled) : Type 0 where
   quiet : Quiet false s → First p missing s
-  opens : (w : ℕ) → p ≡ Position.signal w → begins w ≡ true → missing ≡ false → one (printedOf false s) ≡ w ∷ [] → printingAfter false s ≡ true → First p missing s
+  opens : (w : ℕ) → p ≡ Position.signal w → begins w ≡ true → missing ≡ false → First p missing s
 
-opening : (w : ℕ) → Traffic w → (missing : Bool) → missing ≡ false → First (Position.signal w) missing (Settled.signal w)
-opening w s missing e = go (begins w) refl
+opening : (w : ℕ) → (missing : Bool) → missing ≡ false → First (Position.signal w) missing (Settled.signal w)
+opening w missing e = go (begins w) refl
   where
     go : (t : Bool) → begins w ≡ t → First (Position.signal w) missing (Settled.signal w)
-    go true b = opens w refl b e (rw (b, s .is-traffic, s .not-zero)) b
+    go true b = opens w refl b e
     go false b = quiet (rw b (refl, refl))
 
 firsts : (p : Position) → Word p → (a b : Damage) → NoSignal a → NoSignal b → First p (damaged a && damaged b) (settled (arrives a (dxOf p)) (arrives b (rxOf p)))
 firsts Position.phasing s a b m n = quiet (settles-unbegun a b m n)
-firsts (Position.signal w) s kept b m n = rw (settles-signal w s kept b m n (inl refl)) (opening w s false refl)
-firsts (Position.signal w) s (hurt u) kept m n = rw (settles-signal w s (hurt u) kept m n (inr refl)) (opening w s false refl)
+firsts (Position.signal w) s kept b m n = rw (settles-signal w s kept b m n (inl refl)) (opening w false refl)
+firsts (Position.signal w) s (hurt u) kept m n = rw (settles-signal w s (hurt u) kept m n (inr refl)) (opening w false refl)
 firsts (Position.signal w) s (hurt u) (hurt v) m n = rw (settles-error u v (mutilated u m) (mutilated v n)) (quiet (refl, refl))
 firsts Position.idle s kept b m n = quiet (settles-idle false kept b m n (inl refl))
 firsts Position.idle s (hurt u) kept m n = quiet (settles-idle false (hurt u) kept m n (inr refl))
 firsts Position.idle s (hurt u) (hurt v) m n = rw (settles-error u v (mutilated u m) (mutilated v n)) (quiet (refl, refl))
 
-first-alone : (p : Position) → Word p → (a : Damage) → NoSignal a → First p (damaged a) (settledAlone (arrives a (dxOf p)))
-unfolding settledAlone intactOf onesOf
-first-alone Position.phasing s kept m = quiet (refl, refl)
-first-alone (Position.signal w) s kept m = rw (s .is-intact) (opening w s false refl)
-first-alone Position.idle s kept m = quiet (refl, refl)
-first-alone Position.phasing s (hurt u) m = rw (mutilated u m .not-intact) (quiet (refl, refl))
-first-alone (Position.signal w) s (hurt u) m = rw (mutilated u m .not-intact) (quiet (refl, refl))
-first-alone Position.idle s (hurt u) m = rw (mutilated u m .not-intact) (quiet (refl, refl))
+-- printing has begun, or begins with what is settled next
+pub data Ready (p : Position) (missing : Bool) : Bool → Type 0 where
+  printing-on : Ready p missing true
+  begins-here : (w : ℕ) → p ≡ Position.signal w → begins w ≡ true → missing ≡ false → Ready p missing false
+
+opened : (w : ℕ) → Traffic w → begins w ≡ true → (a b : Damage) → NoSignal a → NoSignal b → damaged a && damaged b ≡ false → Sees (Position.signal w) a b false
+opened w s e kept b m n k = rw (settles-signal w s kept b m n (inl refl), e, s .is-traffic, s .not-zero) (refl, refl)
+opened w s e (hurt u) kept m n k = rw (settles-signal w s (hurt u) kept m n (inr refl), e, s .is-traffic, s .not-zero) (refl, refl)
+opened w s e (hurt u) (hurt v) m n k = absurd (false≢true (sym k))
+
+sees-ready : (p : Position) → Word p → (a b : Damage) → NoSignal a → NoSignal b → (printing : Bool) → Ready p (damaged a && damaged b) printing → Sees p a b printing
+sees-ready p s a b m n true printing-on = sees p s a b m n
+sees-ready p s a b m n false (begins-here w e f k) = rw e (opened w (rw e at s) f a b m n k)
 
 and-swap : (a b : Bool) → a && b ≡ b && a
 and-swap true true = refl
@@ -128,9 +126,15 @@ module _ (d : Damages) (good : (k : ℕ) → NoSignal (d k)) where
   ending : (k : ℕ) (q r : Position) → Word q → Word r → eqb (arrives (d (twoOn (twoOn k))) (dxOf r)) alpha && eqb (arrives (d (twoOn k)) (dxOf q)) alpha ≡ endsBehind d k q r
   ending k q r s t = rw (alpha-heard r t (d (twoOn (twoOn k))) (good (twoOn (twoOn k))), alpha-heard q s (d (twoOn k)) (good (twoOn k))) (and-swap (intactα r (d (twoOn (twoOn k)))) (intactα q (d (twoOn k))))
 
-  -- the words from slot k on, where the next position is p
+  -- the words from slot k on
   abbrev heardOn : ℕ → Position → Position → List Position → List ℕ
   heardOn k before last ps = heardFrom d k (slotsFrom before last ps)
+
+  -- The two slots of position p, the first of them slot k: its DX is heard, and the position two before it is settled. x and y are
+  -- kept as the DX of the two before.
+  pub position : (first x y : ℕ) (before last p : Position) (ps : List Position) (k : ℕ) (printing t : Bool) → eqb (arrives (d k) (dxOf p)) alpha && eqb y alpha ≡ t → listen (inPhase first x y true printing) (heardOn k before last (p ∷ ps)) ≡ one (printedOf printing (settled x (arrives (d (suc k)) (rxOf before)))) ++ listen (waitingFor (leftAt t) x y (arrives (d k) (dxOf p)) true (printingAfter printing (settled x (arrives (d (suc k)) (rxOf before))))) (heardOn (twoOn k) last p ps)
+  unfolding heardFrom slotsFrom
+  position first x y before last p ps k printing t e = dx-rx first x y printing (arrives (d k) (dxOf p)) (arrives (d (suc k)) (rxOf before)) (heardOn (twoOn k) last p ps) t e
 
   -- after the end nothing is printed
   more-idle : (r : Position) (ps : List Position) → AllIdle (r ∷ ps) → AllIdle ps
@@ -138,113 +142,94 @@ module _ (d : Damages) (good : (k : ℕ) → NoSignal (d k)) where
   more-idle (Position.signal w) ps i = absurd i
   more-idle Position.idle ps i = i
 
-  after-end : (j : ℕ) (before q r : Position) (ps : List Position) (h : Damage) → Word before → Ordered (q ∷ r ∷ ps) → intactα q h ≡ true → listen freshReceiver (arrives (d j) (rxOf before) ∷ heardOn (suc j) q r ps) ≡ []
-  after-end j before q r ps h b o e =
-      quiet-behind d good j before q r ps b (word q (r ∷ ps) o) (word r ps (rest q (r ∷ ps) o)) (more-idle r ps (idle-rest q h (r ∷ ps) e o))
+  after-end : (k j : ℕ) (q r : Position) (ps : List Position) → Ordered (q ∷ r ∷ ps) → intactα q (d j) && intactα r (d (twoOn j)) ≡ true → (a b c : ℕ) (printing : Bool) → listen (waitingFor 2 a b c true printing) (heardOn k q r ps) ≡ []
+  after-end k j q r ps o e a b c printing =
+      quiet-behind d good ps (more-idle r ps (idle-rest q (d j) (r ∷ ps) (and-left (intactα q (d j)) (intactα r (d (twoOn j))) e) o)) k q r (word q (r ∷ ps) o) (word r ps (rest q (r ∷ ps) o)) a b c true printing
 
-  -- once printing has begun
-  begun : (ps : List Position) (k first : ℕ) (before last : Position) → Ordered (before ∷ last ∷ ps) → listen (inPhase first (arrives (d k) (dxOf before)) (arrives (d (twoOn k)) (dxOf last)) true true) (heardOn (twoOn (twoOn k)) before last ps) ≡ seenFrom d k (before ∷ last ∷ ps)
-  unfolding listen heardFrom slotsFrom seenFrom
-  begun [] k first before last o = refl
-  begun (p ∷ ps) k first before last o = go (endsBehind d k last p) refl (begun ps (twoOn k) (arrives (d k) (dxOf before)) last p (rest before (last ∷ p ∷ ps) o))
+  -- once printing has begun, or where it begins with the first of these positions
+  pub reads : (ps : List Position) (k first : ℕ) (before last : Position) (printing : Bool) → Ready before (lost d k) printing → Ordered (before ∷ last ∷ ps) → listen (inPhase first (arrives (d k) (dxOf before)) (arrives (d (twoOn k)) (dxOf last)) true printing) (heardOn (twoOn (twoOn k)) before last ps) ≡ seenFrom d k (before ∷ last ∷ ps)
+  unfolding seenFrom
+  reads [] k first before last printing y o = unfold listen heardFrom slotsFrom in refl
+  reads (p ∷ ps) k first before last printing y o = go (reads ps (twoOn k) (arrives (d k) (dxOf before)) last p true printing-on (rest before (last ∷ p ∷ ps) o)) (endsBehind d k last p) refl
     where
-      sb : Word before
-      sb = word before (last ∷ p ∷ ps) o
-
       ol : Ordered (last ∷ p ∷ ps)
       ol = rest before (last ∷ p ∷ ps) o
 
       test : eqb (arrives (d (twoOn (twoOn k))) (dxOf p)) alpha && eqb (arrives (d (twoOn k)) (dxOf last)) alpha ≡ endsBehind d k last p
       test = ending k last p (word last (p ∷ ps) ol) (word p ps (rest last (p ∷ ps) ol))
 
-      go : (t : Bool) → endsBehind d k last p ≡ t → listen (inPhase (arrives (d k) (dxOf before)) (arrives (d (twoOn k)) (dxOf last)) (arrives (d (twoOn (twoOn k))) (dxOf p)) true true) (heardOn (twoOn (twoOn (twoOn k))) last p ps) ≡ seenFrom d (twoOn k) (last ∷ p ∷ ps) → listen (inPhase first (arrives (d k) (dxOf before)) (arrives (d (twoOn k)) (dxOf last)) true true) (heardOn (twoOn (twoOn k)) before last (p ∷ ps)) ≡ seen before (lost d k last p) ++ (if endsBehind d k last p then [] else seenFrom d (twoOn k) (last ∷ p ∷ ps))
-      go true e ih =
-          dx-ends first (arrives (d k) (dxOf before)) (arrives (d (twoOn k)) (dxOf last)) true (arrives (d (twoOn (twoOn k))) (dxOf p)) (arrives (d (fiveOn k)) (rxOf before) ∷ heardOn (twoOn (twoOn (twoOn k))) last p ps) (test ∙ e)
-          ∙ rw (after-end (fiveOn k) before last p ps (d (twoOn k)) sb ol (and-left (intactα last (d (twoOn k))) (intactα p (d (twoOn (twoOn k)))) e), sees-alone before sb (d k) (good k), e)
-      go false e ih =
-          let s = sees before sb (d k) (d (fiveOn k)) (good k) (good (fiveOn k)) in
-          waits-settles first (arrives (d k) (dxOf before)) (arrives (d (twoOn k)) (dxOf last)) true (arrives (d (twoOn (twoOn k))) (dxOf p)) (arrives (d (fiveOn k)) (rxOf before)) (heardOn (twoOn (twoOn (twoOn k))) last p ps) (test ∙ e) ∙ rw (s .0, s .1, e, ih)
+      s : Sees before (d k) (d (fiveOn k)) printing
+      s = sees-ready before (word before (last ∷ p ∷ ps) o) (d k) (d (fiveOn k)) (good k) (good (fiveOn k)) printing y
+
+      go : listen (inPhase (arrives (d k) (dxOf before)) (arrives (d (twoOn k)) (dxOf last)) (arrives (d (twoOn (twoOn k))) (dxOf p)) true true) (heardOn (twoOn (twoOn (twoOn k))) last p ps) ≡ seenFrom d (twoOn k) (last ∷ p ∷ ps) → (t : Bool) → endsBehind d k last p ≡ t → listen (inPhase first (arrives (d k) (dxOf before)) (arrives (d (twoOn k)) (dxOf last)) true printing) (heardOn (twoOn (twoOn k)) before last (p ∷ ps)) ≡ seen before (lost d k) ++ (if endsBehind d k last p then [] else seenFrom d (twoOn k) (last ∷ p ∷ ps))
+      go ih true e =
+          position first (arrives (d k) (dxOf before)) (arrives (d (twoOn k)) (dxOf last)) before last p ps (twoOn (twoOn k)) printing true (test ∙ e)
+          ∙ rw (s .0, s .1, e, after-end (twoOn (twoOn (twoOn k))) (twoOn k) last p ps ol e (arrives (d k) (dxOf before)) (arrives (d (twoOn k)) (dxOf last)) (arrives (d (twoOn (twoOn k))) (dxOf p)) true)
+      go ih false e =
+          position first (arrives (d k) (dxOf before)) (arrives (d (twoOn k)) (dxOf last)) before last p ps (twoOn (twoOn k)) printing false (test ∙ e)
+          ∙ rw (s .0, s .1, e, ih)
 
   -- in phase, before printing has begun
   printed-as : {k : ℕ} {ps : List Position} {xs ys : List ℕ} → xs ≡ ys → Printed d k ps ys → Printed d k ps xs
   printed-as e p = rw e p
 
-  opened : (k w : ℕ) (p q r : Position) (ps : List Position) → p ≡ Position.signal w → begins w ≡ true → lost d k q r ≡ false → Printed d k (p ∷ q ∷ r ∷ ps) (w ∷ (if endsBehind d k q r then [] else seenFrom d (twoOn k) (q ∷ r ∷ ps)))
-  opened k w p q r ps e b l = rw e (printed-as (sym shown) (here b l))
-    where
-      shown : seenFrom d k (Position.signal w ∷ q ∷ r ∷ ps) ≡ w ∷ (if endsBehind d k q r then [] else seenFrom d (twoOn k) (q ∷ r ∷ ps))
-      shown = unfold seenFrom in (rw l)
-
   unbegun : (ps : List Position) (k first : ℕ) (before last : Position) → Ordered (before ∷ last ∷ ps) → Printed d k (before ∷ last ∷ ps) (listen (inPhase first (arrives (d k) (dxOf before)) (arrives (d (twoOn k)) (dxOf last)) true false) (heardOn (twoOn (twoOn k)) before last ps))
-  unfolding listen heardFrom slotsFrom
-  unbegun [] k first before last o = nothing
-  unbegun (p ∷ ps) k first before last o = go (endsBehind d k last p) refl (unbegun ps (twoOn k) (arrives (d k) (dxOf before)) last p (rest before (last ∷ p ∷ ps) o))
+  unbegun [] k first before last o = unfold listen heardFrom slotsFrom in nothing
+  unbegun (p ∷ ps) k first before last o = go (unbegun ps (twoOn k) (arrives (d k) (dxOf before)) last p (rest before (last ∷ p ∷ ps) o)) (firsts before (word before (last ∷ p ∷ ps) o) (d k) (d (fiveOn k)) (good k) (good (fiveOn k)))
     where
-      sb : Word before
-      sb = word before (last ∷ p ∷ ps) o
-
       ol : Ordered (last ∷ p ∷ ps)
       ol = rest before (last ∷ p ∷ ps) o
 
       test : eqb (arrives (d (twoOn (twoOn k))) (dxOf p)) alpha && eqb (arrives (d (twoOn k)) (dxOf last)) alpha ≡ endsBehind d k last p
       test = ending k last p (word last (p ∷ ps) ol) (word p ps (rest last (p ∷ ps) ol))
 
-      ended : endsBehind d k last p ≡ true → First before (damaged (d k)) (settledAlone (arrives (d k) (dxOf before))) → Printed d k (before ∷ last ∷ p ∷ ps) (one (printedOf false (settledAlone (arrives (d k) (dxOf before)))) ++ [])
-      ended e (quiet q) = rw (q .0) nothing
-      ended e (opens w b c m x y) = rw x (printed-as (rw e) (opened k w before last p ps b c (rw e m)))
-
-      next : listen (inPhase (arrives (d k) (dxOf before)) (arrives (d (twoOn k)) (dxOf last)) (arrives (d (twoOn (twoOn k))) (dxOf p)) true true) (heardOn (twoOn (twoOn (twoOn k))) last p ps) ≡ seenFrom d (twoOn k) (last ∷ p ∷ ps)
-      next = begun ps (twoOn k) (arrives (d k) (dxOf before)) last p ol
-
-      on : endsBehind d k last p ≡ false → Printed d (twoOn k) (last ∷ p ∷ ps) (listen (inPhase (arrives (d k) (dxOf before)) (arrives (d (twoOn k)) (dxOf last)) (arrives (d (twoOn (twoOn k))) (dxOf p)) true false) (heardOn (twoOn (twoOn (twoOn k))) last p ps)) → First before (damaged (d k) && damaged (d (fiveOn k))) (settled (arrives (d k) (dxOf before)) (arrives (d (fiveOn k)) (rxOf before))) → Printed d k (before ∷ last ∷ p ∷ ps) (one (printedOf false (settled (arrives (d k) (dxOf before)) (arrives (d (fiveOn k)) (rxOf before)))) ++ listen (inPhase (arrives (d k) (dxOf before)) (arrives (d (twoOn k)) (dxOf last)) (arrives (d (twoOn (twoOn k))) (dxOf p)) true (printingAfter false (settled (arrives (d k) (dxOf before)) (arrives (d (fiveOn k)) (rxOf before))))) (heardOn (twoOn (twoOn (twoOn k))) last p ps))
-      on e ih (quiet q) = rw (q .0, q .1) (behind ih)
-      on e ih (opens w b c m x y) = rw (x, y, next) (printed-as (rw e) (opened k w before last p ps b c (rw e m)))
-
-      go : (t : Bool) → endsBehind d k last p ≡ t → Printed d (twoOn k) (last ∷ p ∷ ps) (listen (inPhase (arrives (d k) (dxOf before)) (arrives (d (twoOn k)) (dxOf last)) (arrives (d (twoOn (twoOn k))) (dxOf p)) true false) (heardOn (twoOn (twoOn (twoOn k))) last p ps)) → Printed d k (before ∷ last ∷ p ∷ ps) (listen (inPhase first (arrives (d k) (dxOf before)) (arrives (d (twoOn k)) (dxOf last)) true false) (heardOn (twoOn (twoOn k)) before last (p ∷ ps)))
-      go true e ih =
+      on : Printed d (twoOn k) (last ∷ p ∷ ps) (listen (inPhase (arrives (d k) (dxOf before)) (arrives (d (twoOn k)) (dxOf last)) (arrives (d (twoOn (twoOn k))) (dxOf p)) true false) (heardOn (twoOn (twoOn (twoOn k))) last p ps)) → (t : Bool) → endsBehind d k last p ≡ t → Quiet false (settled (arrives (d k) (dxOf before)) (arrives (d (fiveOn k)) (rxOf before))) → Printed d k (before ∷ last ∷ p ∷ ps) (listen (inPhase first (arrives (d k) (dxOf before)) (arrives (d (twoOn k)) (dxOf last)) true false) (heardOn (twoOn (twoOn k)) before last (p ∷ ps)))
+      on ih true e q =
           printed-as
-          (dx-ends first (arrives (d k) (dxOf before)) (arrives (d (twoOn k)) (dxOf last)) false (arrives (d (twoOn (twoOn k))) (dxOf p)) (arrives (d (fiveOn k)) (rxOf before) ∷ heardOn (twoOn (twoOn (twoOn k))) last p ps) (test ∙ e)
-          ∙ rw (after-end (fiveOn k) before last p ps (d (twoOn k)) sb ol (and-left (intactα last (d (twoOn k))) (intactα p (d (twoOn (twoOn k)))) e)))
-          (ended e (first-alone before sb (d k) (good k)))
-      go false e ih =
+          (position first (arrives (d k) (dxOf before)) (arrives (d (twoOn k)) (dxOf last)) before last p ps (twoOn (twoOn k)) false true (test ∙ e)
+          ∙ rw (q .0, q .1, after-end (twoOn (twoOn (twoOn k))) (twoOn k) last p ps ol e (arrives (d k) (dxOf before)) (arrives (d (twoOn k)) (dxOf last)) (arrives (d (twoOn (twoOn k))) (dxOf p)) false))
+          nothing
+      on ih false e q =
           printed-as
-          (waits-settles first (arrives (d k) (dxOf before)) (arrives (d (twoOn k)) (dxOf last)) false (arrives (d (twoOn (twoOn k))) (dxOf p)) (arrives (d (fiveOn k)) (rxOf before)) (heardOn (twoOn (twoOn (twoOn k))) last p ps) (test ∙ e))
-          (on e ih (firsts before sb (d k) (d (fiveOn k)) (good k) (good (fiveOn k))))
+          (position first (arrives (d k) (dxOf before)) (arrives (d (twoOn k)) (dxOf last)) before last p ps (twoOn (twoOn k)) false false (test ∙ e)
+          ∙ rw (q .0, q .1))
+          (behind ih)
+
+      go : Printed d (twoOn k) (last ∷ p ∷ ps) (listen (inPhase (arrives (d k) (dxOf before)) (arrives (d (twoOn k)) (dxOf last)) (arrives (d (twoOn (twoOn k))) (dxOf p)) true false) (heardOn (twoOn (twoOn (twoOn k))) last p ps)) → First before (lost d k) (settled (arrives (d k) (dxOf before)) (arrives (d (fiveOn k)) (rxOf before))) → Printed d k (before ∷ last ∷ p ∷ ps) (listen (inPhase first (arrives (d k) (dxOf before)) (arrives (d (twoOn k)) (dxOf last)) true false) (heardOn (twoOn (twoOn k)) before last (p ∷ ps)))
+      go ih (quiet q) = on ih (endsBehind d k last p) refl q
+      go ih (opens w e b m) = printed-as (reads (p ∷ ps) k first before last false (begins-here w e b m) o) (rw e (here b m))
 
   -- just in phase: one waiting word, or both, taken for RQ
-  one-counted : (ps : List Position) (k first : ℕ) (before last : Position) → Word before → Ordered (last ∷ ps) → Printed d k (last ∷ ps) (listen (inPhase first rq (arrives (d k) (dxOf last)) true false) (heardOn (twoOn k) before last ps))
-  unfolding listen heardFrom slotsFrom
-  one-counted [] k first before last s o = nothing
-  one-counted (p ∷ ps) k first before last s o = go (intactα last (d k) && intactα p (d (twoOn k))) refl
+  one-counted : (ps : List Position) (k first : ℕ) (before last : Position) → Ordered (last ∷ ps) → Printed d k (last ∷ ps) (listen (inPhase first rq (arrives (d k) (dxOf last)) true false) (heardOn (twoOn k) before last ps))
+  one-counted [] k first before last o = unfold listen heardFrom slotsFrom in nothing
+  one-counted (p ∷ ps) k first before last o = go (intactα last (d k) && intactα p (d (twoOn k))) refl
     where
       test : eqb (arrives (d (twoOn k)) (dxOf p)) alpha && eqb (arrives (d k) (dxOf last)) alpha ≡ intactα last (d k) && intactα p (d (twoOn k))
       test =
           rw (alpha-heard p (word p ps (rest last (p ∷ ps) o)) (d (twoOn k)) (good (twoOn k)), alpha-heard last (word last (p ∷ ps) o) (d k) (good k))
           (and-swap (intactα p (d (twoOn k))) (intactα last (d k)))
 
-      alone : one (printedOf false (settledAlone rq)) ≡ []
-      alone = unfold settledAlone intactOf onesOf in refl
+      q : Quiet false (settled rq (arrives (d (suc (twoOn k))) (rxOf before)))
+      q = settles-counted (arrives (d (suc (twoOn k))) (rxOf before))
 
       go : (t : Bool) → intactα last (d k) && intactα p (d (twoOn k)) ≡ t → Printed d k (last ∷ p ∷ ps) (listen (inPhase first rq (arrives (d k) (dxOf last)) true false) (heardOn (twoOn k) before last (p ∷ ps)))
       go true e =
           printed-as
-          (dx-ends first rq (arrives (d k) (dxOf last)) false (arrives (d (twoOn k)) (dxOf p)) (arrives (d (suc (twoOn k))) (rxOf before) ∷ heardOn (twoOn (twoOn k)) last p ps) (test ∙ e)
-          ∙ rw (after-end (suc (twoOn k)) before last p ps (d k) s o (and-left (intactα last (d k)) (intactα p (d (twoOn k))) e), alone))
+          (position first rq (arrives (d k) (dxOf last)) before last p ps (twoOn k) false true (test ∙ e)
+          ∙ rw (q .0, q .1, after-end (twoOn (twoOn k)) k last p ps o e rq (arrives (d k) (dxOf last)) (arrives (d (twoOn k)) (dxOf p)) false))
           nothing
       go false e =
-          let q = settles-counted (arrives (d (suc (twoOn k))) (rxOf before)) in
           printed-as
-          (waits-settles first rq (arrives (d k) (dxOf last)) false (arrives (d (twoOn k)) (dxOf p)) (arrives (d (suc (twoOn k))) (rxOf before)) (heardOn (twoOn (twoOn k)) last p ps) (test ∙ e))
-          (rw (q .0, q .1) (unbegun ps k rq last p o))
+          (position first rq (arrives (d k) (dxOf last)) before last p ps (twoOn k) false false (test ∙ e) ∙ rw (q .0, q .1))
+          (unbegun ps k rq last p o)
 
-  both-counted : (ps : List Position) (k first : ℕ) (before last : Position) → Word last → Ordered ps → Printed d k ps (listen (inPhase first rq rq true false) (heardOn k before last ps))
-  unfolding listen heardFrom slotsFrom
-  both-counted [] k first before last t o = nothing
-  both-counted (p ∷ ps) k first before last t o =
+  both-counted : (ps : List Position) (k first : ℕ) (before last : Position) → Ordered ps → Printed d k ps (listen (inPhase first rq rq true false) (heardOn k before last ps))
+  both-counted [] k first before last o = unfold listen heardFrom slotsFrom in nothing
+  both-counted (p ∷ ps) k first before last o =
       let q = settles-counted (arrives (d (suc k)) (rxOf before)) in
       printed-as
-      (waits-settles first rq rq false (arrives (d k) (dxOf p)) (arrives (d (suc k)) (rxOf before)) (heardOn (twoOn k) last p ps) (and-swap (eqb (arrives (d k) (dxOf p)) alpha) false))
-      (rw (q .0, q .1) (one-counted ps k rq last p t o))
+      (position first rq rq before last p ps k false false (and-swap (eqb (arrives (d k) (dxOf p)) alpha) false) ∙ rw (q .0, q .1))
+      (one-counted ps k rq last p o)
 
 -- The search. Before a DX slot the last signal of a run is α: RQ is never heard in an RX slot.
 data BeforeDx : Receiver → Type 0 where
@@ -314,18 +299,21 @@ module _ (d : Damages) (good : (k : ℕ) → NoSignal (d k)) where
     where
       go : (r : Receiver) → Next r → ((r : Receiver) → BeforeDx r → Printed d (twoOn k) ps (listen r (heardFrom d (twoOn k) (slotsFrom last p ps)))) → Printed d (twoOn k) ps (listen r (heardFrom d (twoOn k) (slotsFrom last p ps)))
       go r (seeks b) ih = ih r b
-      go r locks ih = both-counted d good ps (twoOn k) rq last p (word p ps o) (rest p ps o)
+      go r locks ih = both-counted d good ps (twoOn k) rq last p (rest p ps o)
 
 -- a broadcast is phasing and traffic, and then α
-sent-ordered : (ps : List Position) → AllSent ps → Ordered (ps ++ replicate 17 Position.idle)
-sent-ordered [] s = tt
-sent-ordered (Position.phasing ∷ ps) s = sent-ordered ps (s .1)
-sent-ordered (Position.signal w ∷ ps) s = (s .0, sent-ordered ps (s .1))
-sent-ordered (Position.idle ∷ ps) s = absurd (s .0)
+pub breaks-ordered : (ws : List ℕ) (n : ℕ) → Text ws → Ordered (withBreaks n ws ++ replicate 17 Position.idle)
+unfolding withBreaks
+breaks-ordered [] n t = tt
+breaks-ordered (w ∷ ws) n t = go (eqb n 96) (breaks-ordered ws 1 (t .1)) (breaks-ordered ws (n + 1) (t .1))
+  where
+    go : (b : Bool) → Ordered (withBreaks 1 ws ++ replicate 17 Position.idle) → Ordered (withBreaks (n + 1) ws ++ replicate 17 Position.idle) → Ordered ((if b then replicate 4 Position.phasing ++ Position.signal w ∷ withBreaks 1 ws else Position.signal w ∷ withBreaks (n + 1) ws) ++ replicate 17 Position.idle)
+    go true e f = (traffic w (t .0), e)
+    go false e f = (traffic w (t .0), f)
 
 ordered : (text : List ℕ) → Text text → Ordered (positionsOf text)
 unfolding positionsOf trafficOf meaningOf
-ordered text t = sent-ordered (withBreaks 0 (carriageReturn ∷ lineFeed ∷ text)) (breaks-sent (carriageReturn ∷ lineFeed ∷ text) 0 (refl, (refl, t)))
+ordered text t = breaks-ordered (carriageReturn ∷ lineFeed ∷ text) 0 (refl, (refl, t))
 
 -- No wrong signal: under any damage that is never one of the 35 a fresh receiver prints nothing, or what is to be seen from a return
 -- or line feed on.
@@ -339,7 +327,7 @@ unfolding seenFrom
 seen-in-order d [] k = done
 seen-in-order d (p ∷ []) k = done
 seen-in-order d (p ∷ q ∷ []) k = done
-seen-in-order d (p ∷ q ∷ r ∷ ps) k = go (endsBehind d k q r) (lost d k q r) (seen-in-order d (q ∷ r ∷ ps) (twoOn k))
+seen-in-order d (p ∷ q ∷ r ∷ ps) k = go (endsBehind d k q r) (lost d k) (seen-in-order d (q ∷ r ∷ ps) (twoOn k))
   where
     one-more : (p : Position) (b : Bool) (xs : List ℕ) → InOrder (q ∷ r ∷ ps) xs → InOrder (p ∷ q ∷ r ∷ ps) (seen p b ++ xs)
     one-more p true xs i = marked i
@@ -357,8 +345,8 @@ printed-in-order {d} {k} (here {w = w} {q = q} {r = r} {ps = qs} b l) = seen-in-
 printed-in-order (behind p) = passed (printed-in-order p)
 
 -- Once printing has begun a settled position is an error mark exactly where it is lost.
-pub marked-exactly : (d : Damages) (k : ℕ) (p q r : Position) → Word p → (seen p (lost d k q r) ≡ errorMark ∷ []) ↔ (lost d k q r ≡ true)
-marked-exactly d k p q r s = go (lost d k q r)
+pub marked-exactly : (d : Damages) (k : ℕ) (p : Position) → Word p → (seen p (lost d k) ≡ errorMark ∷ []) ↔ (lost d k ≡ true)
+marked-exactly d k p s = go (lost d k)
   where
     no-traffic : trafficOf errorMark ≡ false
     no-traffic = unfold trafficOf meaningOf in refl

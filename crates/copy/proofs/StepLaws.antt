@@ -1,5 +1,5 @@
 -- One slot: what a receiver prints in it, and what it is after it. Assumes nothing.
-use mathlib.Core.Path.{_≡_, refl, ap, _∙_}
+use mathlib.Core.Path.{_≡_, refl, ap}
 use mathlib.Core.Bool.{Bool, true, false, _&&_}
 use mathlib.Core.Logic.{_⊎_, inl, inr}
 use mathlib.Core.List.{List, [], _∷_, _++_}
@@ -11,51 +11,37 @@ use Rattle.signals.specs.Meaning.{trafficOf, meaningOf, alpha, rq}
 use Rattle.mode_b.specs.declared.Phasing.{Phasing}
 use Rattle.mode_b.specs.declared.Hearing.the-variants.{Searching, InPhase}
 use Rattle.mode_b.specs.declared.Receiver.{Receiver}
-use Rattle.mode_b.specs.Sender.{Position, dxOf}
-use Rattle.mode_b.specs.Receiver.{Settled, settled, settledAlone, printedOf, printingAfter, heardDx, heardRx, freshReceiver}
+use Rattle.mode_b.specs.Receiver.{Settled, settled, printedOf, printingAfter, heardDx, heardRx, waited, freshReceiver}
 use Rattle.mode_b.proofs.PhaseLaws.{rq-prints-nothing}
 use Rattle.signals.specs.Damage.{Damage, kept, hurt, arrives, NoSignal}
 use Rattle.copy.specs.Run.{one, listen}
 use Rattle.copy.proofs.WordLaws.{Mutilated, mutilated, Traffic, eqb-self}
 
+abbrev pub waitingFor : ℕ → ℕ → ℕ → ℕ → Bool → Bool → Receiver
+waitingFor n a b c dx printing =
+    record { hearing = InPhase (record { first = a; second = b; third = c; dx = dx; printing = printing; wait = n }) }
+
 abbrev pub inPhase : ℕ → ℕ → ℕ → Bool → Bool → Receiver
-inPhase a b c dx printing =
-    record { hearing = InPhase (record { first = a; second = b; third = c; dx = dx; printing = printing }) }
+inPhase a b c dx printing = waitingFor 0 a b c dx printing
 
 abbrev pub seeking : ℕ → Phasing → Receiver
 seeking run s = record { hearing = Searching run s }
 
-module _ (a b c : ℕ) (printing : Bool) (w : ℕ) (ws : List ℕ) where
-  pub dx-waits : eqb w alpha && eqb c alpha ≡ false → listen (inPhase a b c true printing) (w ∷ ws) ≡ listen (inPhase b c w false printing) ws
-  unfolding listen heardDx
-  dx-waits e = rw e
+-- A DX slot, and the RX slot behind it, in which the position two before is settled. After two successive α two words are left of the
+-- wait.
+abbrev pub leftAt : Bool → ℕ
+leftAt true = 2
+leftAt false = 0
 
-  pub dx-ends : eqb w alpha && eqb c alpha ≡ true → listen (inPhase a b c true printing) (w ∷ ws) ≡ one (printedOf printing (settledAlone b)) ++ listen freshReceiver ws
-  unfolding listen heardDx
-  dx-ends e = rw e
+pub dx-rx : (a b c : ℕ) (printing : Bool) (v w : ℕ) (ws : List ℕ) (t : Bool) → eqb v alpha && eqb c alpha ≡ t → listen (inPhase a b c true printing) (v ∷ w ∷ ws) ≡ one (printedOf printing (settled b w)) ++ listen (waitingFor (leftAt t) b c v true (printingAfter printing (settled b w))) ws
+unfolding listen heardDx heardRx waited
+dx-rx a b c printing v w ws true e = rw e
+dx-rx a b c printing v w ws false e = rw e
 
-  pub rx-settles : listen (inPhase a b c false printing) (w ∷ ws) ≡ one (printedOf printing (settled a w)) ++ listen (inPhase a b c true (printingAfter printing (settled a w))) ws
-  unfolding listen heardRx
-  rx-settles = refl
-
--- a DX slot that does not end reception, and the RX slot behind it
-pub waits-settles : (a b c : ℕ) (printing : Bool) (v w : ℕ) (ws : List ℕ) → eqb v alpha && eqb c alpha ≡ false → listen (inPhase a b c true printing) (v ∷ w ∷ ws) ≡ one (printedOf printing (settled b w)) ++ listen (inPhase b c v true (printingAfter printing (settled b w))) ws
-waits-settles a b c printing v w ws e = dx-waits a b c printing v (w ∷ ws) e ∙ rx-settles b c v printing w ws
-
--- a position of phasing or of traffic
-abbrev pub Sent : Position → Type 0
-Sent Position.phasing = Unit {0}
-Sent (Position.signal w) = Traffic w
-Sent Position.idle = ⊥
-
--- its DX is never heard as α
-pub not-alpha : (p : Position) → Sent p → (h : Damage) → NoSignal h → eqb (arrives h (dxOf p)) alpha ≡ false
-not-alpha Position.phasing s kept n = refl
-not-alpha (Position.signal w) s kept n = s .not-alpha
-not-alpha Position.idle s kept n = absurd s
-not-alpha Position.phasing s (hurt v) n = mutilated v n .not-alpha
-not-alpha (Position.signal w) s (hurt v) n = mutilated v n .not-alpha
-not-alpha Position.idle s (hurt v) n = absurd s
+-- the last two words of the wait
+pub wait-ends : (a b c : ℕ) (dx printing : Bool) (v w : ℕ) (ws : List ℕ) → listen (waitingFor 2 a b c dx printing) (v ∷ w ∷ ws) ≡ listen freshReceiver ws
+unfolding listen waited
+wait-ends a b c dx printing v w ws = refl
 
 pub hurt-kept : (v : ℕ) → hurt v ≡ kept → ⊥
 hurt-kept v e = let z : _≡_ {A = ℕ} 0 1 = cc in omega arith

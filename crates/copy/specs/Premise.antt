@@ -1,6 +1,6 @@
 -- 01, Mode B: "Premise for a perfect copy (return, line feed and the text printed, nothing else): it listens from slot 0, four
--- successive phasing signals before the text arrive intact, each position has an intact copy, the last traffic position (the line
--- feed where the text is empty) and the first two α positions have an intact DX, and damage is never one of the 35."  R-125
+-- successive phasing signals before the text arrive intact, each position has an intact copy, .. and damage is never one of the
+-- 35."  02, T-03: "The premise on intact DX copies falls away".  R-125
 -- Assumes nothing.
 use mathlib.Core.Path.{_≡_}
 use mathlib.Core.Bool.{true}
@@ -51,31 +51,40 @@ pub record FourIntact (start : ℕ) (d : Damages) : Type 0 where
   pub intact : (j : ℕ) → j < 4 → d (first + j) ≡ kept
 
 -- The clauses of 01's premise, for a receiver that listens from slot `start` on:
---     from-0                    "it listens from slot 0"
---     phasing                   "four successive phasing signals before the text arrive intact"
---     copies                    "each position has an intact copy"
---     last, first-α, second-α   "the last traffic position (the line feed where the text is empty) and the first two α positions
---                               have an intact DX"
---     no-signal                 "damage is never one of the 35"
+--     from-0      "it listens from slot 0"
+--     phasing     "four successive phasing signals before the text arrive intact"
+--     copies      "each position has an intact copy": one that is sent
+--     no-signal   "damage is never one of the 35"
 pub data Clause : Type 0 where
-  from-0 phasing copies last first-α second-α no-signal : Clause
+  from-0 phasing copies no-signal : Clause
 
 abbrev pub Holds : Clause → ℕ → List ℕ → Damages → Type 0
 Holds from-0 start text d = start ≡ 0
 Holds phasing start text d = FourIntact 0 d
 Holds copies start text d = (t : ℕ) → t < length (positionsOf text) → DxIntact d t ⊎ (RxSent text t × RxIntact d t)
-Holds last start text d = DxIntact d (lastTraffic text)
-Holds first-α start text d = DxIntact d (lastTraffic text + 1)
-Holds second-α start text d = DxIntact d (lastTraffic text + 2)
 Holds no-signal start text d = (k : ℕ) → NoSignal (d k)
 
 -- the premise of 01
 abbrev pub Premise : ℕ → List ℕ → Damages → Type 0
 Premise start text d = (c : Clause) → Holds c start text d
 
--- A weaker one: the receiver may listen from a later slot, if the four are still to come, and a copy is needed only from the return
--- to the last traffic position, breaks included.
+-- Two successive α are heard in DX right behind position t: it is the last traffic position, or an α position.
+pub record EndsAfter (text : List ℕ) (d : Damages) (t : ℕ) : Type 0 where
+  pub behind-the-text : lastTraffic text ≤ t
+  pub first-α : DxIntact d (t + 1)
+  pub second-α : DxIntact d (t + 2)
+
+-- A weaker one: the receiver may listen from a later slot, if the four are still to come, and a copy is needed of each position from
+-- the return on, breaks included, as long as reception has not ended: up to the one right before the first two successive α that are
+-- heard in DX, or, where there are no such two, of every position but the last two, whose RX is not sent.
 pub record LatePremise (start : ℕ) (text : List ℕ) (d : Damages) : Type 0 where
+  pub phasing : FourIntact start d
+  pub copies : (t : ℕ) → 16 ≤ t → t + 2 < length (positionsOf text) → ((e : ℕ) → e < t → EndsAfter text d e → ⊥) → DxIntact d t ⊎ RxIntact d t
+  pub no-signal : (k : ℕ) → NoSignal (d k)
+
+-- What was enough before T-03: copies from the return to the last traffic position, and an intact DX of that one and of the first two
+-- α positions. 01's former premise asked for more: slot 0, and a copy of each position.
+pub record FormerPremise (start : ℕ) (text : List ℕ) (d : Damages) : Type 0 where
   pub phasing : FourIntact start d
   pub copies : (t : ℕ) → 16 ≤ t → t ≤ lastTraffic text → DxIntact d t ⊎ RxIntact d t
   pub last : DxIntact d (lastTraffic text)

@@ -1,15 +1,14 @@
--- 01, Mode B: what a reader may see, read off the positions sent and the damage that is never one of the 35.  R-115 to R-123
+-- 01, Mode B: what a reader may see, read off the positions sent and the damage that is never one of the 35.  R-115 to R-124
 --
 -- In words:
 --     lost phasing   Nothing is printed until four phasing signals in a row are heard, at the start or in a break (which the receiver
 --                    does by R-112, and which is not stated here), and behind them a return or a line feed. What comes before is
 --                    missing without a mark.
 --     break          A phasing position prints nothing; but one with both copies damaged is an error mark, as any position is.
---     damaged end    Reception ends at the first two successive α positions with an intact DX. The position right before them is an
---                    error mark where its DX is damaged, though its RX is still to come: the last traffic position, or an α
---                    position where the end comes later. Any α position before that one is an error mark where both copies are
---                    damaged. Without such two, positions are settled to the last slot, and each of them
---                    that is lost is an error mark.
+--     damaged end    The first two successive α positions with an intact DX end reception. The position right before them is the
+--                    last that is settled, by both its copies as any other: its RX is the next word. So up to that one each position,
+--                    α positions too, is an error mark where both copies are damaged, and behind it nothing is printed. Without
+--                    such two, positions are settled to the last slot, and each of them that is lost is an error mark.
 -- Assumes nothing.
 use mathlib.Core.Path.{_≡_}
 use mathlib.Core.Bool.{Bool, true, false, _&&_}
@@ -33,7 +32,7 @@ abbrev pub damaged : Damage → Bool
 damaged kept = false
 damaged (hurt v) = true
 
--- "Two successive intact α in DX end reception at once": the two positions behind the one in slot k are α, and their DX is intact
+-- "Two successive intact α in DX": the two positions behind the one in slot k are α, and their DX is intact
 abbrev pub intactα : Position → Damage → Bool
 intactα phasing h = false
 intactα (signal w) h = false
@@ -43,9 +42,9 @@ intactα idle (hurt v) = false
 abbrev pub endsBehind : Damages → ℕ → Position → Position → Bool
 endsBehind d k q r = intactα q (d (twoOn k)) && intactα r (d (twoOn (twoOn k)))
 
--- A position is lost where both copies are damaged, or where it is settled by its DX alone and that is damaged.
-abbrev pub lost : Damages → ℕ → Position → Position → Bool
-lost d k q r = if endsBehind d k q r then damaged (d k) else damaged (d k) && damaged (d (fiveOn k))
+-- A position is lost where both copies are damaged.
+abbrev pub lost : Damages → ℕ → Bool
+lost d k = damaged (d k) && damaged (d (fiveOn k))
 
 -- once printing has begun: a lost position is an error mark, another prints its traffic signal, if it has one
 abbrev pub trafficIn : Position → List ℕ
@@ -64,14 +63,14 @@ seenFrom d k [] = []
 seenFrom d k (p ∷ []) = []
 seenFrom d k (p ∷ q ∷ []) = []
 seenFrom d k (p ∷ q ∷ r ∷ ps) =
-    seen p (lost d k q r) ++ (if endsBehind d k q r then [] else seenFrom d (twoOn k) (q ∷ r ∷ ps))
+    seen p (lost d k) ++ (if endsBehind d k q r then [] else seenFrom d (twoOn k) (q ∷ r ∷ ps))
 
 -- What is printed of the positions from slot k on: nothing, or what is seen from a return or line feed on that is not lost.
 -- From which one is not said here, nor whether it prints at all: that depends on where the receiver comes into phase (R-112), and
 -- `late-copy` says when it does.
 pub data Printed (d : Damages) : ℕ → List Position → List ℕ → Type 0 where
   nothing : {k : ℕ} {ps : List Position} → Printed d k ps []
-  here : {k w : ℕ} {q r : Position} {ps : List Position} → begins w ≡ true → lost d k q r ≡ false → Printed d k (signal w ∷ q ∷ r ∷ ps) (seenFrom d k (signal w ∷ q ∷ r ∷ ps))
+  here : {k w : ℕ} {q r : Position} {ps : List Position} → begins w ≡ true → lost d k ≡ false → Printed d k (signal w ∷ q ∷ r ∷ ps) (seenFrom d k (signal w ∷ q ∷ r ∷ ps))
   behind : {k : ℕ} {p : Position} {ps : List Position} {xs : List ℕ} → Printed d (twoOn k) ps xs → Printed d k (p ∷ ps) xs
 
 -- each signal printed is of a position, the one sent there or an error mark; the positions come in order, and none twice
