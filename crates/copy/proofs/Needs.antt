@@ -1,5 +1,6 @@
 -- Each clause of 01's premise is needed: a broadcast of the text E that fails where that clause alone is dropped. E has 36 positions
--- and 72 slots: 16 is the return, 17 the line feed, 18 E, and 19 the first α. Assumes nothing.
+-- and 72 slots: 16 is the return, 17 the line feed, 18 E, and 19 the first α. And the premise is met by broadcasts that the one before
+-- T-03 left out. Assumes nothing.
 use mathlib.Core.Path.{_≡_, refl, ap, sym, _∙_}
 use mathlib.Core.Bool.{Bool, true, false, _&&_, _||_}
 use mathlib.Core.Logic.{_⊎_, inl, inr}
@@ -18,7 +19,8 @@ use Rattle.mode_b.specs.Sender.{carriageReturn, lineFeed, withBreaks, positions
 use Rattle.mode_b.specs.Receiver.{settled, heardDx, heardRx, waited}
 use Rattle.signals.specs.Damage.{Damage, kept, hurt, NoSignal}
 use Rattle.copy.specs.Run.{Damages, heardFrom, listen, copyFrom}
-use Rattle.copy.specs.Premise.{Text, Clause, Holds, Needed}
+use Rattle.copy.specs.Premise.{Text, Clause, Holds, Premise, FormerPremise, Needed}
+use Rattle.copy.proofs.StepLaws.{hurt-kept}
 use Rattle.copy.specs.Premise.Clause.{from-0, phasing, copies, no-signal}
 
 abbrev E : List ℕ
@@ -163,3 +165,13 @@ each-clause-needed from-0 = needed from-0 29 0 [] _ tt late-run (λ l. length l)
 each-clause-needed phasing = needed phasing 0 0 no-four _ tt unphased-run (λ l. length l) (λ e. omega arith)
 each-clause-needed copies = needed copies 0 0 (34 ∷ 39 ∷ []) _ tt uncopied-run (nth 1) (λ e. omega arith)
 each-clause-needed no-signal = needed no-signal 0 (wordNo 1) (39 ∷ []) _ tt signal-run (nth 1) (λ e. omega arith)
+
+-- The premise allows what the one before T-03 did not: here the DX of E and of the first two α are lost.
+pub allows-more : Premise 0 E (hurtAt 0 (36 ∷ 38 ∷ 40 ∷ [])) × (FormerPremise 0 E (hurtAt 0 (36 ∷ 38 ∷ 40 ∷ [])) → ⊥)
+allows-more = (met, λ f. hurt-kept 0 (unfold withBreaks in (f .last)))
+  where
+    met : (c : Clause) → Holds c 0 E (hurtAt 0 (36 ∷ 38 ∷ 40 ∷ []))
+    met from-0 = holds from-0 0 0 (36 ∷ 38 ∷ 40 ∷ []) tt
+    met phasing = holds phasing 0 0 (36 ∷ 38 ∷ 40 ∷ []) tt
+    met copies = holds copies 0 0 (36 ∷ 38 ∷ 40 ∷ []) tt
+    met no-signal = holds no-signal 0 0 (36 ∷ 38 ∷ 40 ∷ []) (unfold meaningOf in tt)

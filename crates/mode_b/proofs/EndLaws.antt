@@ -33,7 +33,7 @@ reception-ends p z d a u v w =
     }
 
 -- how many words a receiver still waits for
-abbrev waitIn : Hearing → ℕ
+abbrev pub waitIn : Hearing → ℕ
 waitIn (Searching k last) = 0
 waitIn (InPhase p) = p .wait
 

@@ -22,7 +22,7 @@
 use mathlib.Core.Path.{_≡_, ap, sym, _∙_}
 use mathlib.Core.Bool.{Bool, true, false}
 use mathlib.Core.List.{List, [], _∷_}
-use Prim.Native.Nat.{ℕ, suc, _+_}
+use Prim.Native.Nat.{ℕ, suc}
 use native.Mathlib.Omega.{arith}
 use Rattle.signals.specs.Units.{intactOf, onesOf}
 use Rattle.signals.specs.Meaning.{meaningOf, trafficOf}
@@ -37,6 +37,7 @@ use Rattle.mode_b.specs.declared.Heard.{Heard}
 use Rattle.mode_b.specs.declared.Received.{Received}
 use Rattle.mode_b.specs.Sender.{withBreaks, positionsOf, slotsFrom, slotsOf, slotting, saidSlot, Slots}
 use Rattle.mode_b.specs.Receiver.{freshReceiver, settled, heardRx, heardDx, waited, printedIn, Receives}
+use Rattle.mode_b.proofs.EndLaws.{waitIn}
 
 abbrev numberIn : Answer ℕ → ℕ
 numberIn (answered w) = 0
@@ -71,30 +72,21 @@ pub no-star-for-the-last : (h : Heard) → h .printed ≡ 255 → Receives (reco
 unfolding heardRx waited settled intactOf onesOf trafficOf meaningOf
 no-star-for-the-last h e p = let z : _≡_ {A = ℕ} 255 86 = sym e ∙ ap printedIn (p .0) in omega arith
 
--- how many words a receiver in phase still waits for; 4 stands for a search, whose run is the number above it
-abbrev waitIn : Hearing → ℕ
-waitIn (Searching run last) = 4 + run
-waitIn (InPhase p) = p .wait
-
-abbrev refusal : Answer Heard → ℕ
-refusal (answered h) = 0
-refusal (refused n v) = n
-
-abbrev waitOf : Answer Heard → ℕ
-waitOf (answered h) = waitIn (h .receiver .hearing)
-waitOf (refused n v) = 0
+abbrev hearingIn : Answer Heard → Hearing
+hearingIn (answered h) = h .receiver .hearing
+hearingIn (refused n v) = freshReceiver .hearing
 
 pub no-wait-of-two : (h : Heard) → h .receiver ≡ freshReceiver → Receives (waiting true 15 15 true 2) 71 (Received.Done h) → ⊥
 unfolding waited
-no-wait-of-two h e p = let z : _≡_ {A = ℕ} 4 1 = sym (ap (λ (r : Receiver). waitIn (r .hearing)) e) ∙ ap waitOf (p .0) in omega arith
+no-wait-of-two h e p = let z : _≡_ {A = ℕ} 0 1 = sym (ap (λ (r : Receiver). waitIn (r .hearing)) e) ∙ ap (λ (a : Answer Heard). waitIn (hearingIn a)) (p .0) in omega arith
 
-pub no-wait-of-four : (h : Heard) → waitIn (h .receiver .hearing) ≡ 1 → Receives (waiting false 15 15 true 1) 71 (Received.Done h) → ⊥
+pub no-wait-of-four : (h : Heard) (q : Phase) → h .receiver .hearing ≡ InPhase q → Receives (waiting false 15 15 true 1) 71 (Received.Done h) → ⊥
 unfolding waited
-no-wait-of-four h e p = let z : _≡_ {A = ℕ} 1 4 = sym e ∙ ap waitOf (p .0) in omega arith
+no-wait-of-four h q e p = let f : InPhase q ≡ Searching 0 Phasing.One = sym e ∙ ap hearingIn (p .0) in let z : _≡_ {A = ℕ} 0 1 = cc in omega arith
 
-pub no-third-α-anew : (h : Heard) → waitIn (h .receiver .hearing) ≡ 3 → Receives (waiting true 15 15 true 2) 15 (Received.Done h) → ⊥
+pub no-third-α-anew : (h : Heard) (q : Phase) → h .receiver .hearing ≡ InPhase q → q .wait ≡ 3 → Receives (waiting true 15 15 true 2) 15 (Received.Done h) → ⊥
 unfolding waited
-no-third-α-anew h e p = let z : _≡_ {A = ℕ} 3 1 = sym e ∙ ap waitOf (p .0) in omega arith
+no-third-α-anew h q e f p = let z : _≡_ {A = ℕ} 3 1 = sym f ∙ sym (ap waitIn e) ∙ ap (λ (a : Answer Heard). waitIn (hearingIn a)) (p .0) in omega arith
 
 pub no-second-printed : (h : Heard) → h .printed ≡ 86 → Receives (waiting true 15 15 true 2) 86 (Received.Done h) → ⊥
 unfolding waited
@@ -106,7 +98,11 @@ no-third-printed h e p = let z : _≡_ {A = ℕ} 86 0 = sym e ∙ ap printedIn (
 
 pub no-wait-searched : (h : Heard) (run : ℕ) (last : Phasing) → h .receiver .hearing ≡ Searching (suc run) last → Receives (waiting false 15 15 true 1) 15 (Received.Done h) → ⊥
 unfolding waited
-no-wait-searched h run last e p = let z : 4 + suc run ≡ 4 = sym (ap waitIn e) ∙ ap waitOf (p .0) in omega arith
+no-wait-searched h run last e p = let f : Searching (suc run) last ≡ Searching 0 Phasing.One = sym e ∙ ap hearingIn (p .0) in let z : _≡_ {A = ℕ} 0 1 = cc in omega arith
+
+abbrev refusal : Answer Heard → ℕ
+refusal (answered h) = 0
+refusal (refused n v) = n
 
 pub no-wait-of-4-taken : (h : Heard) (w : ℕ) → Receives (waiting true 86 86 true 4) w (Received.Done h) → ⊥
 no-wait-of-4-taken h w p = let z : _≡_ {A = ℕ} 0 4 = ap refusal (p .0) in omega arith
