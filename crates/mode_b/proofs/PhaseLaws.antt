@@ -26,7 +26,7 @@ use Rattle.mode_b.specs.declared.Hearing.{Hearing}
 use Rattle.mode_b.specs.declared.Hearing.the-variants.{Searching, InPhase}
 use Rattle.mode_b.specs.declared.Receiver.{Receiver}
 use Rattle.mode_b.specs.declared.Heard.{Heard}
-use Rattle.mode_b.specs.Receiver.{freshReceiver, hears, runOf, locked, searchedOn, Settled, settled, printedOf, printingAfter, heardRx, receiving, receiverAfter}
+use Rattle.mode_b.specs.Receiver.{freshReceiver, hears, runOf, locked, searchedOn, Settled, settled, printedOf, printingAfter, heardRx, receiving, afterWord}
 
 abbrev hearing : Hearing → Receiver
 hearing h = record { hearing = h }
@@ -89,11 +89,8 @@ pub no-mark-unprinted : ((w : ℕ) → printedOf true (settled rq w) ≡ 0) → 
 unfolding settled intactOf onesOf
 no-mark-unprinted claim = let z : errorMark ≡ 0 = claim 86 in omega arith
 
-abbrev heard : Receiver → ℕ → Receiver
-heard r w = receiverAfter r (receiving r w)
-
-pub four-heard : heard (heard (heard (heard freshReceiver alpha) rq) alpha) rq ≡ hearing (locked Phasing.Two)
+pub four-heard : afterWord (afterWord (afterWord (afterWord freshReceiver alpha) rq) alpha) rq ≡ hearing (locked Phasing.Two)
 four-heard = refl
 
-pub three-heard : heard (heard (heard freshReceiver alpha) rq) alpha ≡ hearing (Searching 3 Phasing.One)
+pub three-heard : afterWord (afterWord (afterWord freshReceiver alpha) rq) alpha ≡ hearing (Searching 3 Phasing.One)
 three-heard = refl

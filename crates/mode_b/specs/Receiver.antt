@@ -91,7 +91,7 @@ printingAfter printing (signal w) = printing || begins w
 printingAfter printing phasing = printing
 printingAfter printing error = printing
 
--- In an RX slot the oldest waiting position is settled; `left` is what remains of the wait behind it.
+-- In an RX slot the oldest waiting position is settled; `left` is what remains of the wait behind it, 0 where there is none.
 unfoldable pub heardRx : Phase → ℕ → ℕ → Heard
 heardRx p w left =
     printsAt
@@ -108,7 +108,8 @@ heardDx p w =
     hears
     (InPhase (record { first = p .second; second = p .third; third = w; dx = false; printing = p .printing; wait = waitAfter (p .third) w }))
 
--- The three words, by how many are still to be heard. The position before the two α waits; its RX is the very next word.
+-- The three words, by how many are still to be heard, this one with them. The position before the two α waits; its RX is the very next
+-- word.
 --     3   "settle the waiting position in the ordinary way"               R-123
 --     2   a word that prints nothing, whatever it is                      R-122
 --     1   likewise; behind it "the receiver searches anew"                R-124
