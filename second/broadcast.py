@@ -1,5 +1,5 @@
 """Mode B, collective: sender and receiver (paper 01, "Mode B"; 001, 4.2 to
-4.6)."""
+4.6; 02, T-03)."""
 
 from collections import namedtuple
 
@@ -78,14 +78,19 @@ def slot(text, number):
 # them is `last`.  In phase: `number` is the number of the next slot, even for
 # DX, counted by the receiver itself; `dx` maps the positions that wait for
 # their RX to the DX word heard; `printing` tells whether printing has begun.
+# While it waits behind the two alpha that end reception: `wait` words are still
+# to come; `dx` is the DX word of the position that waits for its RX, None where
+# that has been heard; `printing` as before.
 Searching = namedtuple("Searching", "run last")
 InPhase = namedtuple("InPhase", "number dx printing")
+Waiting = namedtuple("Waiting", "wait dx printing")
 
 # A settled position: a signal's word, or one of these.
 SETTLED_PHASING = "phasing"
 SETTLED_ERROR = "error"
 
 MOST_RUN = 3                 # a fourth signal ends the search
+MOST_WAIT = 3                # "three more signals after the second alpha"
 
 
 def fresh_receiver():
@@ -101,6 +106,11 @@ def hear_word(receiver, word):
             # "receiver with a search run over 3"
             return Refused(4, 0)
         return search(receiver, word), None
+    if isinstance(receiver, Waiting):
+        if receiver.wait > MOST_WAIT:
+            # 02, T-03: "4 also for a remaining wait over three"
+            return Refused(4, 0)
+        return hear_waiting(receiver, word)
     if receiver.number % 2 == 0:
         return hear_dx(receiver, word)
     return hear_rx(receiver, word)
@@ -130,12 +140,9 @@ def hear_dx(receiver, word):
     t = receiver.number // 2
     before = receiver.dx
     if word == ALPHA and before.get(t - 1) == ALPHA:
-        # "Two successive intact alpha in DX end reception at once: the one
-        # position before them is settled by its DX alone, and the receiver
-        # searches anew."
-        settled = settle_alone(before[t - 2])
-        _, printed = print_settled(receiver.printing, settled)
-        return fresh_receiver(), printed
+        # "Two successive intact alpha in DX end reception": after three more
+        # words.  The one position before them has not been settled.
+        return Waiting(MOST_WAIT, before[t - 2], receiver.printing), None
     dx = dict(before)
     dx[t] = word
     return InPhase(receiver.number + 1, dx, receiver.printing), None
@@ -154,6 +161,20 @@ def hear_rx(receiver, word):
     return InPhase(receiver.number + 1, dx, printing), printed
 
 
+def hear_waiting(receiver, word):
+    """02, T-03: "The receiver shall hear three more signals after the second
+    alpha and settle the waiting position in the ordinary way"; then, by 01, it
+    "searches anew".  The second and the third word are heard and no more."""
+    printing, printed = receiver.printing, None
+    if receiver.wait == MOST_WAIT:
+        # "the last position's RX copy is the very next signal"
+        settled = settle(receiver.dx, word)
+        printing, printed = print_settled(printing, settled)
+    if receiver.wait == 1:
+        return fresh_receiver(), printed
+    return Waiting(receiver.wait - 1, None, printing), printed
+
+
 def settle(dx, rx):
     """01: "both copies intact and alike, that signal; RQ then alpha, phasing; only
     one intact, that one; otherwise an error"."""
@@ -165,12 +186,6 @@ def settle(dx, rx):
         return dx
     if intact(rx) and not intact(dx):
         return rx
-    return SETTLED_ERROR
-
-
-def settle_alone(dx):
-    if intact(dx):
-        return dx
     return SETTLED_ERROR
 
 

@@ -31,14 +31,15 @@ MODULES = ("refusal", "signals", "text", "station", "broadcast", "programs")
 
 # about: what is wrong.  tellers: the programs whose inputs have to tell it, and
 # of `calls` the kind of record, as in "calls R".  Then the module, a piece of
-# its source that stands in it once, and what takes its place.
-Fault = namedtuple("Fault", "about tellers module old new")
+# its source that stands in it once, and what takes its place; where that is not
+# enough, more pairs of these two.
+Fault = namedtuple("Fault", "about tellers module old new more", defaults=((),))
 
 FAULTS = []
 
 
-def fault(about, tellers, module, old, new):
-    FAULTS.append(Fault(about, tellers.split(", "), module, old, new))
+def fault(about, tellers, module, old, new, *more):
+    FAULTS.append(Fault(about, tellers.split(", "), module, old, new, more))
 
 
 # --- The code ---
@@ -876,17 +877,20 @@ fault("reception ends only once printing has begun", "calls R, receive",
       "if word == ALPHA and before.get(t - 1) == ALPHA and receiver.printing:")
 fault("reception ends by a damaged alpha", "calls R, receive", "broadcast",
       "before.get(t - 1) == ALPHA:", "before.get(t - 1) % 128 == ALPHA:")
-fault("at the end nothing is settled", "calls R, receive", "broadcast",
-      "settled = settle_alone(before[t - 2])", "settled = SETTLED_PHASING")
-fault("at the end a damaged DX prints nothing", "calls R, receive", "broadcast",
-      "        return dx\n    return SETTLED_ERROR\n\n\ndef print_settled",
-      "        return dx\n    return SETTLED_PHASING\n\n\ndef print_settled")
-fault("at the end printing cannot begin", "calls R, receive", "broadcast",
-      "        return fresh_receiver(), printed",
-      "        return fresh_receiver(), printed if receiver.printing else None")
-fault("the last alpha is the first of the new search", "calls R, receive",
-      "broadcast", "        return fresh_receiver(), printed",
-      "        return Searching(1, ALPHA), printed")
+fault("reception ends by an alpha in RX behind one in DX", "calls R, receive",
+      "broadcast", "    dx = dict(receiver.dx)\n    dx.pop(t, None)\n",
+      "    dx = dict(receiver.dx)\n    dx.pop(t, None)\n"
+      "    if word == ALPHA and dx.get(t + 2) == ALPHA:\n"
+      "        return Waiting(MOST_WAIT, dx[t + 1], receiver.printing), None\n")
+fault("reception ends by two alpha in RX too", "receive", "broadcast",
+      "InPhase = namedtuple(\"InPhase\", \"number dx printing\")\n",
+      "InPhase = namedtuple(\"InPhase\", \"number dx printing rx\", defaults=(None,))\n",
+      ("    return InPhase(receiver.number + 1, dx, receiver.printing), None\n",
+       "    return receiver._replace(number=receiver.number + 1, dx=dx), None\n"),
+      ("    return InPhase(receiver.number + 1, dx, printing), printed\n",
+       "    if word == receiver.rx == ALPHA:\n"
+       "        return Waiting(MOST_WAIT, dx[t + 1], printing), printed\n"
+       "    return InPhase(receiver.number + 1, dx, printing, word), printed\n"))
 fault("printing begins with a line feed only", "calls R, receive", "broadcast",
       "    if settled in (CARRIAGE_RETURN, LINE_FEED):",
       "    if settled == LINE_FEED:")
@@ -908,6 +912,169 @@ fault("beta is printed in mode B", "calls R, receive", "broadcast",
       "    if is_traffic(settled) or settled == 51:\n        return True, settled")
 fault("printing ends with a settled alpha", "calls R, receive", "broadcast",
       "    return True, None\n", "    return settled != ALPHA, None\n")
+
+# --- Mode B: the three words behind the second alpha (02, T-03) ---
+
+# Where the wait begins; and of `hear_waiting`: which word settles the waiting
+# position, how it is settled and printed, which word is the last, what is behind
+# it, and what is behind another word.
+WAIT_BEGINS = "        return Waiting(MOST_WAIT, before[t - 2], receiver.printing), None\n"
+SETTLES = "    if receiver.wait == MOST_WAIT:\n"
+IN_THE_WAIT = "        settled = settle(receiver.dx, word)\n"
+PRINTED_IN_WAIT = "        printing, printed = print_settled(printing, settled)\n"
+LAST_OF_WAIT = "    if receiver.wait == 1:\n"
+WAIT_ENDS = "        return fresh_receiver(), printed\n"
+WAIT_GOES_ON = "    return Waiting(receiver.wait - 1, None, printing), printed\n"
+WAIT_REFUSED = "        if receiver.wait > MOST_WAIT:\n"
+
+fault("the end as 01 has it: at once, by the DX alone", "calls R, receive",
+      "broadcast", WAIT_BEGINS,
+      "        lone = before[t - 2] if intact(before[t - 2]) else SETTLED_ERROR\n"
+      "        return fresh_receiver(), print_settled(receiver.printing, lone)[1]\n")
+fault("the end at once, and nothing is settled", "calls R, receive", "broadcast",
+      WAIT_BEGINS, "        return fresh_receiver(), None\n")
+fault("the wait: settled by the DX alone at the second alpha", "calls R, receive",
+      "broadcast", WAIT_BEGINS,
+      "        lone = before[t - 2] if intact(before[t - 2]) else SETTLED_ERROR\n"
+      "        printing, printed = print_settled(receiver.printing, lone)\n"
+      "        return Waiting(MOST_WAIT, ALPHA, printing), printed\n",
+      (SETTLES, "    if False:\n"))
+fault("the wait: settled by the DX alone", "calls R, receive", "broadcast",
+      IN_THE_WAIT,
+      "        settled = receiver.dx if intact(receiver.dx) else SETTLED_ERROR\n")
+fault("the wait: settled by the RX alone", "calls R, receive", "broadcast",
+      IN_THE_WAIT, "        settled = word if intact(word) else SETTLED_ERROR\n")
+fault("the wait: settled by the DX where both are intact", "calls R, receive",
+      "broadcast", IN_THE_WAIT,
+      "        settled = receiver.dx if intact(receiver.dx) else settle(0, word)\n")
+fault("the wait: two damaged copies print nothing", "calls R, receive", "broadcast",
+      PRINTED_IN_WAIT, "        if settled != SETTLED_ERROR:\n    " + PRINTED_IN_WAIT)
+fault("the wait: printing cannot begin", "calls R, receive", "broadcast",
+      SETTLES, "    if receiver.wait == MOST_WAIT and printing:\n")
+fault("the wait: printed whether printing has begun or not", "calls R, receive",
+      "broadcast", PRINTED_IN_WAIT,
+      "        printing, printed = print_settled(True, settled)\n")
+fault("the wait: nothing is settled", "calls R, receive", "broadcast",
+      SETTLES, "    if False:\n")
+fault("the wait: the first alpha is settled", "calls R, receive", "broadcast",
+      WAIT_BEGINS, WAIT_BEGINS.replace("t - 2", "t - 1"))
+fault("the wait: settled by the second word", "calls R, receive", "broadcast",
+      SETTLES, "    if receiver.wait == 2:\n",
+      (WAIT_GOES_ON, WAIT_GOES_ON.replace("None", "receiver.dx")))
+fault("the wait: settled by the third word", "calls R, receive", "broadcast",
+      SETTLES, "    if receiver.wait == 1:\n",
+      (WAIT_GOES_ON, WAIT_GOES_ON.replace("None", "receiver.dx")))
+fault("the wait: the waiting position is printed at the third word",
+      "calls R, receive", "broadcast", WAIT_GOES_ON,
+      "    kept = printed if receiver.wait == MOST_WAIT else receiver.dx\n"
+      "    return Waiting(receiver.wait - 1, kept, printing), None\n",
+      (WAIT_ENDS, "        return fresh_receiver(), receiver.dx\n"))
+fault("a wait of two words", "calls R, receive", "broadcast",
+      LAST_OF_WAIT, "    if receiver.wait <= 2:\n")
+fault("a wait of one word", "calls R, receive", "broadcast",
+      LAST_OF_WAIT, "    if True:\n")
+fault("a wait of four words", "calls R, receive", "broadcast",
+      "MOST_WAIT = 3 ", "MOST_WAIT = 4 ")
+fault("a wait of four words, the fourth behind a wait of 1", "calls R, receive",
+      "broadcast", LAST_OF_WAIT, "    if receiver.wait == 0:\n")
+fault("the wait is over where printing has not begun", "calls R, receive",
+      "broadcast", LAST_OF_WAIT, "    if receiver.wait == 1 or not printing:\n")
+fault("the wait: a damaged word is none of the three", "calls R, receive",
+      "broadcast", LAST_OF_WAIT,
+      "    if not intact(word):\n        return receiver, printed\n" + LAST_OF_WAIT)
+fault("the wait: a damaged second or third word is not counted",
+      "calls R, receive", "broadcast", LAST_OF_WAIT,
+      "    if not intact(word) and receiver.wait < MOST_WAIT:\n"
+      "        return receiver, printed\n" + LAST_OF_WAIT)
+fault("the wait is over at a word that is no alpha", "calls R, receive",
+      "broadcast", LAST_OF_WAIT,
+      "    if receiver.wait == 1 or receiver.wait == 2 and word != ALPHA:\n")
+fault("the wait is over at RQ", "calls R, receive", "broadcast",
+      LAST_OF_WAIT, "    if receiver.wait == 1 or word == RQ:\n")
+fault("a third alpha in DX begins the wait anew", "calls R, receive", "broadcast",
+      LAST_OF_WAIT,
+      "    if word == ALPHA and receiver.wait == 2:\n"
+      "        return Waiting(MOST_WAIT, ALPHA, printing), printed\n" + LAST_OF_WAIT)
+fault("an alpha as the last word begins the wait anew", "calls R, receive",
+      "broadcast", LAST_OF_WAIT,
+      "    if word == ALPHA and receiver.wait == 1:\n"
+      "        return Waiting(MOST_WAIT, ALPHA, printing), printed\n" + LAST_OF_WAIT)
+fault("any alpha in the wait leaves it as it is", "calls R, receive", "broadcast",
+      LAST_OF_WAIT,
+      "    if word == ALPHA:\n        return receiver._replace(dx=RQ), printed\n"
+      + LAST_OF_WAIT)
+fault("the wait: the second word is printed", "calls R, receive", "broadcast",
+      LAST_OF_WAIT,
+      "    if receiver.wait == 2 and intact(word):\n"
+      "        printing, printed = print_settled(printing, word)\n" + LAST_OF_WAIT)
+fault("the wait: the third word is printed", "calls R, receive", "broadcast",
+      LAST_OF_WAIT,
+      "    if receiver.wait == 1 and intact(word):\n"
+      "        printing, printed = print_settled(printing, word)\n" + LAST_OF_WAIT)
+fault("the wait: the second word is settled with the first alpha",
+      "calls R, receive", "broadcast", LAST_OF_WAIT,
+      "    if receiver.wait == 2:\n"
+      "        printing, printed = print_settled(printing, settle(ALPHA, word))\n"
+      + LAST_OF_WAIT)
+fault("the wait: the third word is settled with the first alpha",
+      "calls R, receive", "broadcast", LAST_OF_WAIT,
+      "    if receiver.wait == 1:\n"
+      "        printing, printed = print_settled(printing, settle(ALPHA, word))\n"
+      + LAST_OF_WAIT)
+fault("the wait: its three words are heard by the search too", "calls R, receive",
+      "broadcast", LAST_OF_WAIT,
+      "    searched = receiver.dx\n"
+      "    if not isinstance(searched, Searching):\n"
+      "        searched = fresh_receiver()\n"
+      "    searched = search(searched, word)\n"
+      "    if receiver.wait == 1:\n        return searched, printed\n"
+      "    if receiver.wait > 1:\n"
+      "        return Waiting(receiver.wait - 1, searched, printing), printed\n"
+      + LAST_OF_WAIT)
+fault("the wait: its last two words are heard by the search too",
+      "calls R, receive", "broadcast", LAST_OF_WAIT,
+      "    searched = receiver.dx\n"
+      "    if not isinstance(searched, Searching):\n"
+      "        searched = fresh_receiver()\n"
+      "    if receiver.wait < MOST_WAIT:\n"
+      "        searched = search(searched, word)\n"
+      "    if receiver.wait == 1:\n        return searched, printed\n"
+      "    if receiver.wait > 1:\n"
+      "        return Waiting(receiver.wait - 1, searched, printing), printed\n"
+      + LAST_OF_WAIT)
+fault("the wait: its last word is the first of the new search",
+      "calls R, receive", "broadcast", WAIT_ENDS,
+      "        return search(fresh_receiver(), word), printed\n")
+fault("the second alpha is the first of the new search", "calls R, receive",
+      "broadcast", WAIT_ENDS, "        return Searching(1, ALPHA), printed\n")
+fault("the new search goes on with the run of the lock", "calls R, receive",
+      "broadcast", WAIT_ENDS, "        return Searching(MOST_RUN, ALPHA), printed\n")
+fault("behind the wait it is in phase still", "calls R, receive", "broadcast",
+      WAIT_ENDS, "        return InPhase(8, {2: ALPHA, 3: RQ}, printing), printed\n")
+fault("printing is begun still after the end", "receive", "broadcast",
+      "Searching = namedtuple(\"Searching\", \"run last\")\n",
+      "Searching = namedtuple(\"Searching\", \"run last begun\", defaults=(False,))\n",
+      ("        return Searching(0, None)\n",
+       "        return Searching(0, None, receiver.begun)\n"),
+      ("        return Searching(run, word)\n",
+       "        return Searching(run, word, receiver.begun)\n"),
+      ("{2: RQ, 3: RQ}, False)", "{2: RQ, 3: RQ}, receiver.begun)"),
+      (WAIT_ENDS, "        return Searching(0, None, printing), printed\n"))
+fault("receiver: the refusal of a wait gone", "calls R", "broadcast",
+      WAIT_REFUSED, "        if False:\n")
+fault("receiver: a wait of 4 is taken", "calls R", "broadcast",
+      WAIT_REFUSED, "        if receiver.wait > MOST_WAIT + 1:\n")
+fault("receiver: a wait of 255 is taken", "calls R", "broadcast",
+      WAIT_REFUSED, "        if MOST_WAIT < receiver.wait < 255:\n")
+fault("receiver: a wait of 3 is refused", "calls R", "broadcast",
+      WAIT_REFUSED, "        if receiver.wait >= MOST_WAIT:\n")
+fault("receiver: a wait over 3 is refused only before printing", "calls R",
+      "broadcast", WAIT_REFUSED,
+      "        if receiver.wait > MOST_WAIT and not receiver.printing:\n")
+fault("receiver: the wait is told beside its refusal", "calls R", "broadcast",
+      WAIT_REFUSED + "            # 02, T-03: \"4 also for a remaining wait over three\"\n"
+      "            return Refused(4, 0)\n",
+      WAIT_REFUSED + "            return Refused(4, receiver.wait)\n")
 
 # --- The programs ---
 
@@ -1048,6 +1215,61 @@ fault("calls R: a run of 0 keeps its last signal", "calls R", "programs",
       "        return broadcast.Searching(max(run, 1),")
 fault("calls R: flags are whole bytes", "calls R", "programs",
       "printing = fields[8] % 2 == 1", "printing = fields[8] != 0")
+# Of `read_receiver`, where a receiver waits; and of `waiting_line`.
+READS_WAIT = "    wait = fields[9]\n"
+IS_WAITING = "    if wait > 0:\n"
+WAITING_NEXT = "    following = \"dx\" if receiver.wait == 2 else \"rx\"\n"
+WAITING_SETTLED = ("        return \"phase 0 0 0 %s 0 %d | %d\\n\""
+                   " % (following, receiver.wait, printed)\n")
+
+fault("calls R: the wait is not looked at", "calls R", "programs",
+      READS_WAIT, "    wait = 0\n")
+fault("calls R: the wait is the remainder by 4", "calls R", "programs",
+      READS_WAIT, "    wait = fields[9] % 4\n")
+fault("calls R: the wait is the remainder by 128", "calls R", "programs",
+      READS_WAIT, "    wait = fields[9] % 128\n")
+fault("calls R: a wait over 3 is none", "calls R", "programs",
+      READS_WAIT, "    wait = fields[9] if fields[9] <= 3 else 0\n")
+fault("calls R: a wait is looked at only where RX is next", "calls R", "programs",
+      IS_WAITING, "    if wait > 0 and fields[7] % 2 == 1:\n")
+fault("calls R: a wait over 3 is refused only where RX is next", "calls R",
+      "programs", IS_WAITING, "    if 0 < wait < 4 or wait > 3 and fields[7] % 2 == 1:\n")
+for wait in (3, 2, 1):
+    fault("calls R: byte 7 tells the slot at a wait of %d" % wait, "calls R", "programs",
+          IS_WAITING,
+          "    if wait > 0 and (wait != %d or fields[7] %% 2 == %d):\n" % (wait, wait % 2))
+fault("calls R: the slot behind a word of the wait is the one behind byte 7",
+      "calls R", "programs", READS_WAIT,
+      "    wait = fields[9]\n    global NEXT\n"
+      "    NEXT = \"dx\" if fields[7] % 2 == 1 else \"rx\"\n",
+      (WAITING_NEXT, "    following = NEXT\n"))
+fault("calls R: the word that waits is the one in the middle", "calls R", "programs",
+      "broadcast.Waiting(wait, oldest, printing)",
+      "broadcast.Waiting(wait, middle, printing)")
+fault("calls R: printing has begun where a receiver waits", "calls R", "programs",
+      "broadcast.Waiting(wait, oldest, printing)",
+      "broadcast.Waiting(wait, oldest, True)")
+fault("calls R: a search with a wait over 3 is refused", "calls R", "programs",
+      "        run = fields[2]\n",
+      "        run = fields[2] if fields[9] <= 3 else 4\n")
+fault("calls R: a receiver in phase with a run over 3 is refused", "calls R",
+      "programs", READS_WAIT, "    wait = fields[9] if fields[2] <= 3 else 4\n")
+fault("calls R: the wait is written as 0", "calls R", "programs",
+      WAITING_SETTLED, WAITING_SETTLED.replace("receiver.wait", "0"))
+fault("calls R: the words heard are written at a wait of 3", "calls R", "programs",
+      "    return \"phase %d 0 0 %s %d %d | %d\\n\" % (",
+      "    return \"phase %d 15 15 %s %d %d | %d\\n\" % (")
+fault("calls R: printing is written where nothing is printed any more", "calls R",
+      "programs", WAITING_SETTLED,
+      "        return \"phase 0 0 0 %s %d %d | %d\\n\" % (\n"
+      "            following, receiver.printing, receiver.wait, printed)\n")
+fault("calls R: printing is written as 0 at a wait of 3", "calls R", "programs",
+      "        receiver.dx, following, receiver.printing, receiver.wait, printed)",
+      "        receiver.dx, following, 0, receiver.wait, printed)")
+fault("calls R: the next slot of a wait of 2 is RX", "calls R", "programs",
+      WAITING_NEXT, "    following = \"rx\"\n")
+fault("calls R: the next slot of a wait of 1 is DX", "calls R", "programs",
+      WAITING_NEXT, "    following = \"rx\" if receiver.wait == 3 else \"dx\"\n")
 fault("calls I: three words are enough", "calls I", "programs",
       "answer = mode_a.standing_by(cut(data, place, 4))",
       "answer = mode_a.standing_by(cut(data, place, 4)[:3])")
@@ -1136,11 +1358,12 @@ def programs_with(one):
     if one is not None:
         names = MODULES[MODULES.index(one.module):]
         source = SOURCES[one.module]
-        if source.count(one.old) != 1:
-            raise BadFault("what it replaces is %d times in %s.py"
-                           % (source.count(one.old), one.module))
-        compiled[one.module] = compile(source.replace(one.old, one.new),
-                                       one.module + ".py", "exec")
+        for old, new in ((one.old, one.new), *one.more):
+            if source.count(old) != 1:
+                raise BadFault("what it replaces is %d times in %s.py"
+                               % (source.count(old), one.module))
+            source = source.replace(old, new)
+        compiled[one.module] = compile(source, one.module + ".py", "exec")
     kept = {name: sys.modules.get(name) for name in names}
     try:
         for name in names:

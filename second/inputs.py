@@ -563,17 +563,31 @@ def heard_in_mode_b(draw, kind):
             words += draw.choices(
                 [ALPHA, RQ] * 3 + [LINE_FEED, CARRIAGE_RETURN, BETA, 0, 71], k=50)
         elif kind == "ends":
-            # A lock, a few positions, an end in DX or nearly one, and what a new
-            # search may or may not take for its four signals.
+            # A lock, a few positions, an end in DX or nearly one, about as many
+            # words as it waits for, and what a new search may or may not take
+            # for its four signals.
             words += draw.choice(([RQ, ALPHA] * 2, [ALPHA, RQ] * 2 + [ALPHA]))
             for _ in range(draw.randrange(4)):
                 words += draw.choices((LINE_FEED, CARRIAGE_RETURN, 71, RQ, 0), k=2)
             alphas = [ALPHA] * 8 + [128 + ALPHA, 0, RQ]
             words += [draw.choice(alphas), draw.choice((ALPHA, RQ, 71, 0)),
                       draw.choice(alphas)]
-            words += draw.choice(([], [ALPHA], [RQ], [0]))
+            words += draw.choices((ALPHA, RQ, LINE_FEED, 71, 0),
+                                  k=draw.choice((0, 1, 2, 3, 3, 3, 4)))
             words += ([RQ, ALPHA] * 3)[:draw.randrange(3, 6)]
             words += draw.choices((LINE_FEED, 71, 86), k=draw.randrange(6))
+        elif kind == "late ends":
+            # The alpha at the end damaged, so that the second one heard comes
+            # late, up to the last; the end cut, and the next bulletin directly
+            # behind it, of which the phasing is cut.
+            sent = bulletin(draw, draw.choice((0, 1, 2, 10)))
+            traffic = len(sent) - 2 * 17 - 6
+            behind = damaged(draw, sent[traffic:], draw.choice((0.3, 0.6, 0.8)),
+                             draw.choice((MUTILATED, MUTILATED, WORDS)))
+            if draw.random() < 0.2:
+                behind[-4] = behind[-2] = ALPHA
+            sent = sent[:traffic] + behind[:len(behind) - draw.choice((0, 0, 1, 2, 4))]
+            words += sent[draw.choice((0, 25, 26, 27, 28)):]
         else:
             # A lock, and then pairs of words that settle each way.
             words += draw.choice(([RQ, ALPHA], [ALPHA, RQ])) * 2
@@ -584,7 +598,146 @@ def heard_in_mode_b(draw, kind):
 
 RECEIVE_KINDS = ("clean", "damaged", "other signals", "joined late", "cut short",
                  "slots slip", "noise between", "intact noise", "noise",
-                 "phasing noise", "ends", "settling")
+                 "phasing noise", "ends", "late ends", "settling")
+
+
+# --- receive: the three words behind the second alpha (02, T-03) ---
+
+LOCK = [RQ, ALPHA, RQ, ALPHA]
+
+# Of a bulletin with one signal: the last four phasing signals before the text, the
+# DX and the RX of the signal, the second alpha in DX, and what comes behind the
+# three words that follow it.
+LAST_FOUR, ONE_DX, ONE_RX, SECOND_ALPHA, WAITED = 28, 36, 41, 40, 44
+
+
+def ended(positions, two):
+    """A lock, positions by their DX and RX as heard, two alpha in DX, and three
+    words behind the second: the RX of the last position, then `two`.  Where
+    there is no position, one of the lock waits."""
+    dx = [one[0] for one in positions] + [ALPHA, ALPHA]
+    rx = [ALPHA, ALPHA] + [one[1] for one in positions]
+    heard = list(LOCK)
+    for pair in zip(dx, rx):
+        heard += pair
+    return heard + list(two)
+
+
+def listened_from(first, word):
+    """A bulletin with one signal from a slot on, to the end of the three words."""
+    return broadcast.slots([word])[first:WAITED]
+
+
+def searched_in(draw):
+    """What is behind an end: a bulletin of which three to six phasing signals are
+    heard, or one that is joined where signals come before a line feed."""
+    if draw.random() < 0.3:
+        return ended([(71, 71), (86, 86), (LINE_FEED, LINE_FEED), (86, 86)],
+                     [ALPHA, ALPHA])
+    return listened_from(draw.choice((26, 27, 28, 28, 29)), 71)
+
+
+def last_position_ends(draw):
+    """The last position of a text, the line feed where there is none, heard in
+    either slot, in both, in neither, and unlike."""
+    def ways(bad, other):
+        return [{}, {0: bad}, {5: bad}, {0: bad, 5: bad}, {0: other}, {5: other}]
+
+    for length in (0, 1, 2, 94, 95):
+        words = draw.choices(TRAFFIC, k=length)
+        sent = broadcast.slots(words)
+        last = len(sent) - 2 * 18
+        for way in ways(draw.choice(MUTILATED),
+                        draw.choice(INTACT))[:6 if length < 94 else 3]:
+            heard = list(sent)
+            for behind, word in way.items():
+                heard[last + behind] = word
+            yield heard[LAST_FOUR:]
+
+
+def alphas_damaged(draw):
+    """The first alpha in DX damaged, each number of them, up to those before the
+    last two; then another bulletin, of which more or fewer phasing signals are
+    heard.  Behind the last two the sender stops within the wait."""
+    sent = broadcast.slots([86])
+    for spoilt in range(16):
+        for first in (25, 26, 27, 28, 29) if spoilt > 12 else (28,):
+            heard = list(sent)
+            heard[draw.choice((ONE_DX, ONE_RX))] = draw.choice(MUTILATED)
+            for number in range(spoilt):
+                heard[ONE_DX + 2 + 2 * number] = draw.choice(MUTILATED)
+            yield heard[LAST_FOUR:] + listened_from(first, 71)
+
+
+def cut_ends(draw):
+    """A bulletin cut around its second alpha and the three words, and another."""
+    for behind in range(SECOND_ALPHA - 1, WAITED + 2):
+        for first in range(24, 30):
+            yield (broadcast.slots([86])[LAST_FOUR:behind]
+                   + listened_from(first, draw.choice((71, 86))))
+
+
+def words_in_wait(draw):
+    """Three words of each sort.  The DX of the position that waits is 71, or
+    damaged in one of three."""
+    sorts = (ALPHA, RQ, 71, 86, LINE_FEED, None)
+    for three in [(one, two, three) for one in sorts for two in sorts
+                  for three in sorts]:
+        one, *two = [draw.choice(MUTILATED) if word is None else word
+                     for word in three]
+        dx = draw.choice((71, 71, draw.choice(MUTILATED)))
+        yield ended([(LINE_FEED, LINE_FEED), (dx, one)], two) + searched_in(draw)
+
+
+def waiting_positions(draw):
+    """Each sort of DX and RX of the position that waits, once printing has begun
+    and before that; and an end directly behind the lock."""
+    for begun in ([], [(CARRIAGE_RETURN, CARRIAGE_RETURN)]):
+        for dx in (CARRIAGE_RETURN, LINE_FEED, 71, RQ, BETA, 0, 128 + ALPHA):
+            for rx in (CARRIAGE_RETURN, LINE_FEED, 71, RQ, ALPHA, 0, 255):
+                two = draw.choices((ALPHA, ALPHA, 86, LINE_FEED, 0), k=2)
+                yield ended(begun + [(dx, rx)], two) + searched_in(draw)
+    for _ in range(6):
+        yield ended([], draw.choices((ALPHA, RQ, LINE_FEED), k=2)) + searched_in(draw)
+
+
+def four_across_the_wait(draw):
+    """Four alternating signals, the first ones among the three words or the
+    second alpha itself, and a text.  Only those that all come behind the three
+    words end the search."""
+    text_behind = listened_from(LAST_FOUR + 4, 86)
+    begun = [(LINE_FEED, LINE_FEED)]
+    for before, other in ((begun, 71), (begun, 0), (begun, LINE_FEED), ([], 71),
+                          ([], BETA)):
+        for early in range(4):
+            for four, gap in ((LOCK, []), ([ALPHA, RQ] * 2, [0])):
+                one, *two = [other] * (3 - early) + four[:early]
+                yield (ended(before + [(71, one)], two) + four[early:] + gap
+                       + text_behind)
+        for gap in ([0], [ALPHA]):
+            yield ended(before + [(other, RQ)], [ALPHA, RQ]) + gap + text_behind
+
+
+WAIT_WORDS_IN_A_CASE = 1200
+WAIT_KINDS = (last_position_ends, alphas_damaged, cut_ends, words_in_wait,
+              waiting_positions, four_across_the_wait)
+
+
+def wait_cases(draw):
+    """Inputs of these, and how many words they have."""
+    out = []
+    total = 0
+    for kind in WAIT_KINDS:
+        words = []
+        for heard in kind(draw):
+            words += heard
+            total += len(heard)
+            if len(words) > WAIT_WORDS_IN_A_CASE:
+                out.append(quickly(kind.__name__.replace("_", " "), plain(words)))
+                words = []
+        if words:
+            out.append(quickly(kind.__name__.replace("_", " "), plain(words)))
+    return out, total
 
 
 def receive_cases(draw):
@@ -611,7 +764,11 @@ def receive_cases(draw):
             words += spoilt + text_of_one + text_of_one[place:] + text_of_one
         out.append(quickly("slots %d to %d damaged" % (start, start + 7),
                            plain(words)))
-    total = 0
+    for behind in range(SECOND_ALPHA + 1, WAITED):
+        out.append(quickly("ends within the wait, %d words" % behind,
+                           plain(text_of_one[:behind])))
+    more, total = wait_cases(draw)
+    out.extend(more)
     while total < LEAST_RECEIVE_WORDS:
         for kind in RECEIVE_KINDS:
             words = heard_in_mode_b(draw, kind)
@@ -1640,10 +1797,10 @@ def meaning_records():
 
 
 def receive_record(draw, *, run=None, last=None, dx=None, following=None,
-                   printing=None, word):
+                   printing=None, wait=0, word):
     """An R record.  Searching where a run is given, else in phase.  Only the
     lowest bit of a flag counts, so the rest of its byte is drawn at random; so
-    are the fields of the other state and the one that is kept."""
+    are the fields of the other state."""
     fields = draw.choices(WORDS, k=10)
 
     def flag(index, value):
@@ -1652,6 +1809,8 @@ def receive_record(draw, *, run=None, last=None, dx=None, following=None,
     flag(1, 0 if run is not None else 1)
     if run is not None:
         fields[1] = run
+    else:
+        fields[8] = wait
     if last is not None:
         flag(3, last)
     if dx is not None:
@@ -1694,7 +1853,7 @@ def receive_records(draw):
                     yield receive_record(
                         draw, dx=(draw.choice(WORDS), middle, newest),
                         following=DX_NEXT, printing=printing, word=word)
-    # Two alpha in DX, with every word that may wait.
+    # Two alpha in DX, with every word that may wait: the wait begins.
     for printing in (0, 1):
         for waiting in WORDS:
             yield receive_record(draw, dx=(draw.choice(WORDS), waiting, ALPHA),
@@ -1716,13 +1875,53 @@ def receive_records(draw):
                 yield receive_record(draw, dx=(dx, rest[0], rest[1]),
                                      following=RX_NEXT,
                                      printing=draw.choice((0, 1, 1)), word=rx)
+    yield from wait_records(draw)
     # Bytes of any value everywhere.
     for number in range(2500):
         fields = draw.choices(WORDS, k=10)
         if number % 2 == 0:
             fields[1] %= 5
+            fields[8] %= 5
             fields[9] = draw.choice(IN_MODE_B)
         yield b"R" + bytes(fields)
+
+
+def wait_records(draw):
+    """Receivers that wait (02, T-03).  The next slot and the words held are of any
+    value: no run comes to most of them."""
+    flags = [(following, printing) for following in (DX_NEXT, RX_NEXT)
+             for printing in (0, 1)]
+
+    def waits(wait, dx, word, following=None, printing=None):
+        return receive_record(draw, dx=dx, following=following, printing=printing,
+                              wait=wait, word=word)
+
+    # Each wait, and those over 3 with each sort of word.
+    for wait in WORDS:
+        for following, printing in flags:
+            yield waits(wait, draw.choices(IN_MODE_B, k=3), draw.choice(IN_MODE_B),
+                        following, printing)
+    for wait in (4, 5, 255):
+        for word in IN_MODE_B:
+            yield waits(wait, (71, ALPHA, ALPHA), word)
+    # Words held and words heard of each sort: at 3 the oldest is settled by the
+    # word, at 2 and 1 nothing is.
+    for wait in (3, 2, 1):
+        for following, printing in flags:
+            for dx in IN_MODE_B:
+                for word in IN_MODE_B:
+                    if wait == 3 or draw.random() < 0.5:
+                        rest = draw.choice(((ALPHA, ALPHA),
+                                            draw.choices(IN_MODE_B, k=2)))
+                        yield waits(wait, (dx, *rest), word, following, printing)
+    # Each of the 256 words as either copy at 3, and as the word heard at 2 and 1.
+    for word in WORDS:
+        for other in (word, 0, draw.choice(TRAFFIC)):
+            for dx, rx in ((word, other), (other, word)):
+                yield waits(3, (dx, *draw.choices(WORDS, k=2)), rx,
+                            printing=draw.choice((0, 1, 1)))
+        for wait in (2, 1):
+            yield waits(wait, (word, ALPHA, ALPHA), word, printing=1)
 
 
 def identity_records(draw):
@@ -1882,11 +2081,15 @@ NAMES = tuple(MAKERS)
 # The last piece of a list that ends in a fault ends the program, while its input
 # is still open.
 
-def spoken():
-    heard = broadcast.slots([71, 101, 86, 116])
-    # The words up to the first two that are printed, then one by one.
-    begun = 40
-    return [plain(heard[:begun])] + [b"%d " % word for word in heard[begun:44]]
+def spoken(words, begun):
+    """What is heard up to the first that is printed, then word by word."""
+    heard = broadcast.slots(words)
+    return [plain(heard[:begun])] + [b"%d " % word for word in heard[begun:WAITED]]
+
+
+# Of the second, E is printed at the first of the three words behind the second
+# alpha.
+SPOKEN = [spoken([71, 101, 86, 116], 40), spoken([86], ONE_RX - 3)]
 
 
 STEP_RECORD = bytes([1, 4, 1, 0, 0, 0, 0, 31, 0, 0, 116, 86, 51] + [0] * 19)
@@ -1897,9 +2100,10 @@ CONVERSATIONS = {
               bytes([114]), bytes([51, 15, 51, CS1, 0, 0])]],
     "steps": [[STEP_RECORD, STEP_RECORD + STEP_RECORD[:5], STEP_RECORD[5:]]],
     "calls": [[b"MV", text_record(b"E", 0, 4, b"A1"), slot_record(36, [86]),
-               b"R" + bytes([0, 3, 1, 0, 0, 0, 0, 0, 0, 15]), b"I" + bytes([71] * 4),
+               b"R" + bytes([0, 3, 1, 0, 0, 0, 0, 0, 0, 15]),
+               b"R" + bytes([1, 0, 0, 71, 15, 15, 1, 1, 3, 71]), b"I" + bytes([71] * 4),
                b"M", b"eMA", b"?"]],
-    "receive": [spoken(), spoken() + [b"256 "]],
+    "receive": SPOKEN + [SPOKEN[0] + [b"256 "]],
     "encode": [[b"A" * (text.MOST_CHARACTERS + 1)]],
     "print": [[b"71 ", b"7x "], [b"71 " * (text.MOST_SIGNALS + 1)]],
     "send": [[b"71 ", b"256 "]],

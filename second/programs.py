@@ -332,6 +332,10 @@ def read_receiver(fields):
         return broadcast.Searching(run, ALPHA if fields[3] % 2 == 0 else RQ)
     printing = fields[8] % 2 == 1
     oldest, middle, newest = fields[4], fields[5], fields[6]
+    wait = fields[9]
+    if wait > 0:
+        # The oldest waits for its RX; which slot comes next the wait tells.
+        return broadcast.Waiting(wait, oldest, printing)
     # The receiver counts its slots from any even number on; here the three
     # words are the DX of positions 2, 3 and 4, heard in slots 4, 6 and 8.
     if fields[7] % 2 == 0:
@@ -348,6 +352,8 @@ def receiver_line(answer):
     if isinstance(receiver, broadcast.Searching):
         last = {None: "none", ALPHA: "alpha", RQ: "RQ"}[receiver.last]
         return "searching %d %s | %d\n" % (receiver.run, last, printed)
+    if isinstance(receiver, broadcast.Waiting):
+        return waiting_line(receiver, printed)
     if receiver.number % 2 == 0:
         newest = receiver.number // 2 - 1
         waiting = [0]
@@ -359,10 +365,19 @@ def receiver_line(answer):
         following = "rx"
     waiting.append(receiver.dx[newest - 1])
     waiting.append(receiver.dx[newest])
-    wait = 0
-    return "phase %d %d %d %s %d %d | %d\n" % (
-        waiting[0], waiting[1], waiting[2], following, receiver.printing, wait,
-        printed)
+    return "phase %d %d %d %s %d 0 | %d\n" % (
+        waiting[0], waiting[1], waiting[2], following, receiver.printing, printed)
+
+
+def waiting_line(receiver, printed):
+    """Behind the second alpha (02, T-03).  What can no longer matter is 0: the
+    two words that no RX is heard for, and, once the waiting position is
+    settled, its word and whether printing has begun."""
+    following = "dx" if receiver.wait == 2 else "rx"
+    if receiver.dx is None:
+        return "phase 0 0 0 %s 0 %d | %d\n" % (following, receiver.wait, printed)
+    return "phase %d 0 0 %s %d %d | %d\n" % (
+        receiver.dx, following, receiver.printing, receiver.wait, printed)
 
 
 def receive_call(data, place):

@@ -14,6 +14,7 @@ from collections import namedtuple
 #   8  an identity signal outside table 3a               index of the first
 #
 # Of 1: a to z are taken as the capitals (02, T-01), so they are not refused.
+# Of 4: a receiver that has to wait for more than three words too (02, T-03).
 #
 # Each call tests for them in 01's order: "encoding 5, 1, 2; printing 7, 3, 2;
 # mode A step 4, 3; mode B slot 7, 3, 6".  The step tests for 8 before these (02,

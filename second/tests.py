@@ -1262,25 +1262,201 @@ def lock_at_a_break():
         assert received(late[100:])[0] == []
 
 
+PHASING = [RQ, ALPHA] * 4
+# Words of each sort, for what is heard behind the second alpha.
+SORTS = (ALPHA, RQ, BETA, CARRIAGE_RETURN, LINE_FEED, A, E, 0, 255, 128 + ALPHA)
+
+
+def steps_of(words, receiver=None):
+    """The receivers after each word, and what each word prints."""
+    if receiver is None:
+        receiver = broadcast.fresh_receiver()
+    receivers, out = [], []
+    for word in words:
+        receiver, signal = broadcast.hear_word(receiver, word)
+        receivers.append(receiver)
+        out.append(signal)
+    return receivers, out
+
+
 def end_of_reception():
-    # Empty text, the line feed heard by its DX alone.
-    words = broadcast.slots([])
-    words[2 * 17 + 5] = 0
-    assert received(words)[0] == HEAD
-    # The position before the two alpha is settled by its DX alone.
-    words = broadcast.slots([E])
-    words[36] = 0
-    assert received(words)[0] == HEAD + [255]
-    phasing = [RQ, ALPHA] * 4
+    # Empty text: the line feed is the last position, heard by either copy.
+    for slot in (2 * 17, 2 * 17 + 5):
+        words = broadcast.slots([])
+        words[slot] = 0
+        assert received(words)[0] == HEAD
+    # The position before the two alpha is settled in the ordinary way: by its RX,
+    # by its DX, by neither, and by two that are unlike.
+    for dx, rx, last in ((0, E, E), (E, 0, E), (0, 255, 255), (E, A, 255),
+                         (E, E, E), (128 + E, E, E), (RQ, ALPHA, None)):
+        words = broadcast.slots([E])
+        words[36], words[41] = dx, rx
+        assert received(words)[0] == HEAD + ([] if last is None else [last])
     # Two alpha before printing: nothing printed, and it searches anew.
-    out, receiver = received(phasing + [ALPHA, ALPHA, ALPHA])
+    out, receiver = received(PHASING + [ALPHA, ALPHA, ALPHA])
+    assert out == [] and receiver == broadcast.Waiting(3, RQ, False)
+    out, receiver = received(PHASING + [ALPHA] * 6)
     assert out == [] and receiver == broadcast.fresh_receiver()
     # The settled one may be the first return or line feed.
-    assert received(phasing + [LINE_FEED, 0, ALPHA, 0, ALPHA])[0] == [LINE_FEED]
-    assert received(phasing + [0, 0, ALPHA, 0, ALPHA])[0] == []
-    # A mutilated DX between the two breaks the pair.
-    out, receiver = received(phasing + [ALPHA, 0, 0, 0, ALPHA])
-    assert isinstance(receiver, broadcast.InPhase)
+    for one in HEAD:
+        for dx, rx in ((one, one), (one, 0), (0, one)):
+            begins = PHASING + [dx, 0, ALPHA, 0, ALPHA]
+            assert steps_of(begins + [rx, ALPHA, ALPHA])[1] == (
+                [None] * len(begins) + [one, None, None])
+        assert received(begins + [A, A, A])[0] == []
+    assert received(PHASING + [0, 0, ALPHA, 0, ALPHA, 0, 0, 0])[0] == []
+    # A mutilated DX between the two breaks the pair, and so does RQ; an alpha in
+    # RX completes none.
+    for between in (0, RQ, E, 128 + ALPHA):
+        out, receiver = received(PHASING + [ALPHA, ALPHA, between, ALPHA, ALPHA])
+        assert isinstance(receiver, broadcast.InPhase)
+
+
+def three_words_more():
+    """02, T-03: "hear three more signals after the second alpha"."""
+    for printing in (False, True):
+        head = [LINE_FEED, ALPHA] if printing else [BETA, ALPHA]
+        rest = [LINE_FEED if printing else BETA]
+        for dx in SORTS[1:]:
+            before = PHASING + head + [dx, ALPHA, ALPHA] + rest + [ALPHA]
+            receivers, out = steps_of(before)
+            waiting = broadcast.Waiting(3, dx, printing)
+            assert receivers[-1] == waiting and out[-1] is None
+            for one in range(256):
+                ordinary = broadcast.print_settled(
+                    printing, broadcast.settle(dx, one))
+                assert broadcast.hear_word(waiting, one) == (
+                    broadcast.Waiting(2, None, ordinary[0]), ordinary[1])
+    # The other two print nothing, whatever they are, and do not count for the
+    # search; a further alpha does not begin the wait anew.
+    for printing in (False, True):
+        for wait, after in ((2, broadcast.Waiting(1, None, printing)),
+                            (1, broadcast.fresh_receiver())):
+            for one in range(256):
+                heard = broadcast.hear_word(
+                    broadcast.Waiting(wait, None, printing), one)
+                assert heard == (after, None)
+
+
+def three_words_are_swallowed():
+    """Of any three words, four phasing signals behind them are enough for the
+    text that follows, and three are not."""
+    behind = broadcast.slots([A])
+    up_to = broadcast.slots([E])[:41]
+    out, second = received(up_to)
+    assert out == HEAD and second == broadcast.Waiting(3, E, True)
+    for one in SORTS:
+        _, last = broadcast.print_settled(True, broadcast.settle(E, one))
+        for two in SORTS:
+            for three in SORTS:
+                receivers, printed_then = steps_of([one, two, three], second)
+                assert receivers[-1] == broadcast.fresh_receiver()
+                assert printed_then == [last, None, None]
+    for three in ((ALPHA, RQ, ALPHA), (RQ, ALPHA, RQ), (A, ALPHA, RQ), (A, RQ, ALPHA),
+                  (E, A, ALPHA), (E, A, RQ), (0, 0, 0), (A, LINE_FEED, E)):
+        out = received(up_to + list(three))[0]
+        assert received(up_to + list(three) + behind[28:])[0] == out + HEAD + [A]
+        assert received(up_to + list(three) + behind[29:])[0] == out
+    # Printing does not last: one who joins behind the return and the line feed
+    # prints nothing.
+    late = broadcast.slots([E] * 94 + [A])[2 * (16 + 96) + 4:]
+    assert received(late)[0] == []
+    assert received(up_to + [E, ALPHA, ALPHA] + late)[0] == HEAD + [E]
+
+
+def sender_stops_within_the_wait():
+    """Where the last two alpha alone are heard in DX, one word of the three is
+    sent; two of what follows are swallowed."""
+    for damaged in range(18):
+        words = broadcast.slots([E])
+        assert len(words) == 72 and words[38:72:2] == [ALPHA] * 17
+        words[36] = 0
+        for number in range(damaged):
+            words[38 + 2 * number] = 0
+        out, receiver = received(words)
+        if damaged < 15:
+            assert out == HEAD + [E] and receiver.run <= 1
+        elif damaged == 15:
+            assert out == HEAD + [E] and receiver == broadcast.Waiting(2, None, True)
+            for start, text_heard in ((26, HEAD + [A]), (27, []), (28, [])):
+                behind = broadcast.slots([A])[start:]
+                assert received(words + behind)[0] == out + text_heard
+        else:
+            # The end is not found, and nothing is wrong with what was printed.
+            assert out == HEAD + [E] and isinstance(receiver, broadcast.InPhase)
+
+
+def waits_refused():
+    for wait in range(1, 256):
+        for dx in (None, A, 0):
+            for printing in (False, True):
+                for word in (ALPHA, RQ, A, 0):
+                    receiver = broadcast.Waiting(wait, 0 if wait == 3 else dx, printing)
+                    refused = broadcast.hear_word(receiver, word) == Refused(4, 0)
+                    assert refused == (wait > 3)
+
+
+def printed_by_the_list(words):
+    """What is printed, found in the whole list of words heard."""
+    printed = []
+    start = 0
+    while True:
+        # The first four in a row that alternate, none of them before `start`.
+        four = [at for at in range(start, len(words) - 3) if words[at:at + 4]
+                in ([ALPHA, RQ] * 2, [RQ, ALPHA] * 2)]
+        if not four:
+            return printed
+        dx_first = four[0] if words[four[0]] == RQ else four[0] + 1
+        behind = four[0] + 4
+        # The second of two successive alpha in DX; DX slots are every second.
+        ends = [at for at in range(dx_first, len(words), 2) if at - 2 >= behind
+                and words[at] == words[at - 2] == ALPHA]
+        end = ends[0] if ends else len(words)
+        begun = False
+        # RX slots up to the one behind the second alpha; the DX is five before.
+        for at in range(dx_first + 1, min(end + 2, len(words)), 2):
+            if at < behind:
+                continue
+            dx = words[at - 5] if at - 5 >= four[0] else RQ
+            rx = words[at]
+            signal = 255
+            if dx in INTACT and rx in INTACT:
+                signal = dx if dx == rx else 255
+                if (dx, rx) == (RQ, ALPHA):
+                    signal = RQ
+            elif dx in INTACT or rx in INTACT:
+                signal = dx if dx in INTACT else rx
+            begun = begun or signal in HEAD
+            if begun and (signal in TRAFFIC or signal == 255):
+                printed.append(signal)
+        start = end + 4
+
+
+def reception_by_the_list():
+    """The receiver, word by word, against the list as a whole."""
+    draw = random.Random(7)
+    ends = 0
+    for run in range(1500):
+        if run % 3 == 0:
+            words = draw.choices((ALPHA, RQ) * 4 + (LINE_FEED, A, E, 0), k=60)
+        elif run % 3 == 1:
+            words = []
+            for _ in range(4):
+                words += [RQ, ALPHA] * 2 + draw.choices(
+                    (LINE_FEED, A, E, 0), k=draw.randrange(10))
+                words += draw.choices((ALPHA,) * 5 + (RQ, A, 0),
+                                      k=draw.randrange(3, 9))
+        else:
+            words = []
+            for _ in range(2):
+                sent = broadcast.slots(draw.choices(TRAFFIC, k=draw.randrange(3)))
+                words += [draw.choice((0, 255, A, RQ)) if draw.random() < 0.2 else one
+                          for one in sent[draw.randrange(20, 30):]]
+        receivers, out = steps_of(words)
+        assert [one for one in out if one is not None] == printed_by_the_list(words)
+        ends += sum(isinstance(one, broadcast.Waiting) and one.wait == 3
+                    for one in receivers)
+    assert ends > 1500
 
 
 def settling():
@@ -1299,25 +1475,91 @@ def settling():
                 assert settled == "error"
 
 
+def heard_with_copies(draw, sent, chance, keep):
+    """The slots with damage that is none of the 35, but for those of `keep`, four
+    phasing signals before the text, and a copy of each position that is sent."""
+    keep = set(keep)
+    first = draw.randrange(29)
+    keep.update(range(first, first + 4))
+    for t in range(len(sent) // 2):
+        copies = [s for s in (2 * t, 2 * t + 5) if s < len(sent)]
+        keep.add(draw.choice(copies))
+    return [word if s in keep or draw.random() >= chance
+            else draw.choice(MUTILATED) for s, word in enumerate(sent)]
+
+
 def perfect_copy():
-    """01: "Premise for a perfect copy", with random damage inside it."""
+    """01: "Premise for a perfect copy", as 02, T-03 has it: "The premise on intact
+    DX copies falls away".  With random damage inside it, over the slots that are
+    sent."""
     draw = random.Random(4)
-    for run in range(400):
-        length = draw.choice((0, 1, 2, 50, 93, 94, 95, 96, 200, 300))
+    by_rx = late = stopped = 0
+    for run in range(500):
+        length = draw.choice((0, 0, 1, 1, 2, 2, 50, 93, 94, 95, 96, 200, 300))
         words = [draw.choice(TRAFFIC) for _ in range(length)]
         sent = broadcast.slots(words)
+        heard = heard_with_copies(draw, sent, (0.1, 0.5, 1, 1)[run % 4], ())
         last = len(sent) // 2 - 18          # the last traffic position
-        keep = set()
-        first = draw.randrange(29)          # four phasing signals before text
-        keep.update(range(first, first + 4))
-        keep.update((2 * last, 2 * last + 2, 2 * last + 4))
-        for t in range(len(sent) // 2):
-            copies = [s for s in (2 * t, 2 * t + 5) if s < len(sent)]
-            keep.add(draw.choice(copies))
-        chance = (0.1, 0.5, 1)[run % 3]
-        heard = [word if s in keep or draw.random() >= chance
-                 else draw.choice(MUTILATED) for s, word in enumerate(sent)]
-        assert received(heard)[0] == HEAD + words
+        if run % 10 == 9:
+            # Of the alpha, those of the last two positions alone in DX.
+            for t in range(last + 1, len(sent) // 2 - 2):
+                heard[2 * t], heard[2 * t + 5] = draw.choice(MUTILATED), ALPHA
+        out, receiver = received(heard)
+        assert out == HEAD + words
+        by_rx += heard[2 * last] not in INTACT
+        late += heard[2 * last + 2] != ALPHA or heard[2 * last + 4] != ALPHA
+        stopped += receiver == broadcast.Waiting(2, None, True)
+    assert by_rx > 100 and late > 200 and stopped >= 50
+
+
+def perfect_copy_of_01():
+    """Under 01's own premise, with its three intact DX copies at the end."""
+    draw = random.Random(8)
+    for run in range(200):
+        length = draw.choice((0, 1, 2, 50, 94, 95, 200))
+        words = [draw.choice(TRAFFIC) for _ in range(length)]
+        sent = broadcast.slots(words)
+        last = len(sent) // 2 - 18
+        heard = heard_with_copies(draw, sent, (0.1, 0.5, 1)[run % 3],
+                                  (2 * last, 2 * last + 2, 2 * last + 4))
+        out, receiver = received(heard)
+        assert out == HEAD + words and isinstance(receiver, broadcast.Searching)
+
+
+def copies_are_needed():
+    """Where a position has no intact copy that is sent, an error is printed, of
+    an alpha too; but none of an alpha that is behind the end."""
+    sent = broadcast.slots([E])
+    for t in range(16, 19):
+        words = list(sent)
+        words[2 * t] = words[2 * t + 5] = 0
+        # The return lost: the line feed begins printing.
+        assert received(words)[0] == ([LINE_FEED, E] if t == 16 else
+                                      (HEAD + [E])[:t - 16] + [255]
+                                      + (HEAD + [E])[t - 15:])
+    for t in (19, 20):
+        words = list(sent)
+        words[2 * t] = words[2 * t + 5] = 0
+        assert received(words)[0] == HEAD + [E, 255]
+    words = list(sent)
+    for t in range(21, 36):
+        for slot in (2 * t, 2 * t + 5):
+            if slot < len(words):
+                words[slot] = 0
+    assert received(words)[0] == HEAD + [E]
+
+
+def last_letter_of_a_bulletin():
+    """02, T-03, by the programs: the DX of the last letter is damaged."""
+    sent = list(programs.read_words(programs.send(programs.encode(b"E")[0])[0]))
+    assert sent[36] == sent[41] == E and len(sent) == 72
+    for damaged, printed_text in (([], b"\r\nE"), ([36], b"\r\nE"),
+                                  ([41], b"\r\nE"), ([36, 41], b"\r\n*"),
+                                  ([36, 38, 40], b"\r\nE"), ([42, 43], b"\r\nE")):
+        heard = [0 if slot in damaged else word for slot, word in enumerate(sent)]
+        out = programs.receive(programs.write_words(heard))
+        assert out[1] is None
+        assert programs.print_(out[0]) == (printed_text, None)
 
 
 # --- The programs ---
@@ -1605,31 +1847,38 @@ def receive_records():
     # The lines worked in docs/FORMATS.md.
     assert stepped(1, 0, 0, 71, 72, 15, 1, 1, 0, 71) == "phase 0 72 15 dx 1 0 | 71"
     assert stepped(0, 3, 1, 0, 0, 0, 0, 0, 0, 15) == "phase 0 102 102 dx 0 0 | 0"
+    assert stepped(0, 3, 0, 0, 0, 0, 0, 0, 0, 102) == "phase 102 102 102 rx 0 0 | 0"
     assert stepped(0, 4, 0, 0, 0, 0, 0, 0, 0, 15) == "refused 4 0"
-    # Refusal 4 for every run over 3, whatever is heard; not in phase.
+    assert stepped(1, 0, 0, 71, 71, 15, 0, 1, 0, 15) == "phase 71 0 0 rx 1 3 | 0"
+    assert stepped(1, 0, 0, 71, 15, 15, 1, 1, 3, 71) == "phase 0 0 0 dx 0 2 | 71"
+    assert stepped(1, 0, 0, 15, 15, 15, 1, 1, 1, 71) == "searching 0 none | 0"
+    assert stepped(1, 0, 0, 0, 0, 0, 0, 0, 4, 15) == "refused 4 0"
+    # Refusal 4 for every run over 3 of a search and every wait over 3 in phase,
+    # whatever is heard; and not for those of the other state.
     for run in range(256):
         for last in (0, 1):
             for word in (ALPHA, RQ, E, 0):
-                line = stepped(0, run, last, 1, 1, 1, 1, 1, 1, word)
+                line = stepped(0, run, last, 1, 1, 1, 1, 1, 255 - run, word)
                 assert (line == "refused 4 0") == (run > 3)
-        assert stepped(1, run, 0, E, E, E, 1, 1, 9, E).startswith("phase ")
+                line = stepped(1, 255 - run, last, E, E, E, last, run, run, word)
+                assert (line == "refused 4 0") == (run > 3)
+        assert stepped(0, 3, 0, E, E, E, 1, 1, run, E) == "searching 0 none | 0"
+        assert stepped(1, run, 0, E, E, E, 1, 1, 0, E).startswith("phase ")
     # The search.
     assert stepped(0, 0, 1, 0, 0, 0, 0, 0, 0, RQ) == "searching 1 RQ | 0"
     assert stepped(0, 0, 0, 0, 0, 0, 0, 0, 0, RQ) == "searching 1 RQ | 0"
     assert stepped(2, 1, 1, 0, 0, 0, 0, 0, 0, ALPHA) == "searching 2 alpha | 0"
     assert stepped(0, 3, 0, 0, 0, 0, 0, 0, 0, ALPHA) == "searching 1 alpha | 0"
     assert stepped(0, 3, 1, 0, 0, 0, 0, 0, 0, E) == "searching 0 none | 0"
-    assert stepped(0, 3, 0, 0, 0, 0, 0, 0, 0, RQ) == "phase 102 102 102 rx 0 0 | 0"
     # In phase, next DX: the word waits, the oldest of the three is settled.
-    assert stepped(1, 9, 9, 9, A, E, 0, 0, 9, L) == "phase %d %d %d rx 0 0 | 0" % (
+    assert stepped(1, 9, 9, 9, A, E, 0, 0, 0, L) == "phase %d %d %d rx 0 0 | 0" % (
         A, E, L)
-    assert stepped(1, 0, 0, 9, A, ALPHA, 0, 1, 0, ALPHA) == (
-        "searching 0 none | %d" % A)
-    assert stepped(1, 0, 0, 9, 0, ALPHA, 0, 1, 0, ALPHA) == (
-        "searching 0 none | 255")
-    assert stepped(1, 0, 0, 9, 0, ALPHA, 0, 0, 0, ALPHA) == (
-        "searching 0 none | 0")
     assert stepped(1, 0, 0, ALPHA, ALPHA, A, 0, 1, 0, ALPHA).startswith("phase ")
+    # The second alpha: the wait begins, and the one in the middle waits.
+    for middle in (A, 0, 255, ALPHA):
+        for printing in (0, 1):
+            assert stepped(1, 0, 0, 9, middle, ALPHA, 0, printing, 0, ALPHA) == (
+                "phase %d 0 0 rx %d 3 | 0" % (middle, printing))
     # In phase, next RX: the oldest of the three is settled.
     assert stepped(1, 0, 0, LINE_FEED, A, E, 1, 0, 0, 255) == (
         "phase 0 %d %d dx 1 0 | %d" % (A, E, LINE_FEED))
@@ -1640,10 +1889,30 @@ def receive_records():
     assert stepped(1, 0, 0, BETA, A, E, 1, 1, 0, 0).endswith(" | 0")
 
 
+def receive_records_that_wait():
+    """02, T-03: the wait alone tells which word comes, whatever byte 7 is; of the
+    words held the oldest counts at 3, and none behind it."""
+    for following in (0, 1, 254, 255):
+        for rest in ((ALPHA, ALPHA), (A, E), (0, 255), (ALPHA, A)):
+            for dx in SORTS:
+                for word in SORTS:
+                    for printing in (0, 1):
+                        held = (dx, *rest, following, printing)
+                        settled = broadcast.settle(dx, word)
+                        _, signal = broadcast.print_settled(printing == 1, settled)
+                        assert stepped(1, 9, 9, *held, 3, word) == (
+                            "phase 0 0 0 dx 0 2 | %d" % (signal or 0))
+                        assert stepped(1, 9, 9, *held, 2, word) == (
+                            "phase 0 0 0 rx 0 1 | 0")
+                        assert stepped(1, 9, 9, *held, 1, word) == (
+                            "searching 0 none | 0")
+
+
 def receive_records_run_on():
     """A run of `R` records, each written from the line before it, prints what
     the receiver prints that runs by itself."""
     draw = random.Random(6)
+    waits = 0
     for _ in range(40):
         sent = broadcast.slots(draw.choices(TRAFFIC + HEAD, k=draw.randrange(120)))
         words = [draw.choice(range(256)) if draw.random() < 0.1 else word
@@ -1661,8 +1930,17 @@ def receive_records_run_on():
             else:
                 fields = [1] + draw.choices(range(256), k=2) + [
                     int(number) for number in told[1:4]] + [
-                    told[4] == "rx", int(told[5]), draw.randrange(256)]
+                    told[4] == "rx", int(told[5]), int(told[6])]
+                if fields[8] > 0:
+                    # The next slot, and what the line has as 0.
+                    waits += 1
+                    fields[6] = draw.randrange(256)
+                    fields[4:6] = draw.choices(range(256), k=2)
+                if fields[8] in (1, 2):
+                    fields[3] = draw.randrange(256)
+                    fields[7] = draw.randrange(256)
         assert out == received(words)[0]
+    assert waits > 200
 
 
 def receive_records_cut():
@@ -1979,31 +2257,165 @@ def inputs_of_calls():
     assert ("not placed, to wait", 0, "call") not in found
 
 
+RECEIVE_RUNS = []
+
+
+def receive_runs():
+    """Of the inputs of `receive`, run once: the words, the receiver after each,
+    and what each prints."""
+    if not RECEIVE_RUNS:
+        for data in gate_inputs("receive"):
+            words = []
+            try:
+                for word in programs.read_words(data):
+                    words.append(word)
+            except programs.NotANumber:
+                pass
+            RECEIVE_RUNS.append((words, *steps_of(words)))
+    return RECEIVE_RUNS
+
+
 def inputs_of_receive():
     mutilated = unlike = ends = locks_after_an_end = ends_with_error = 0
     good = set(INTACT)
-    for data in gate_inputs("receive"):
-        receiver = broadcast.fresh_receiver()
+    for words, receivers, out in receive_runs():
         ended = False
-        try:
-            for word in programs.read_words(data):
-                before = receiver
-                receiver, signal = broadcast.hear_word(receiver, word)
-                mutilated += word != 0 and word not in good
-                if isinstance(before, broadcast.Searching):
-                    locks_after_an_end += ended and isinstance(
-                        receiver, broadcast.InPhase)
-                elif isinstance(receiver, broadcast.Searching):
+        before = broadcast.fresh_receiver()
+        for word, receiver, signal in zip(words, receivers, out):
+            mutilated += word != 0 and word not in good
+            if isinstance(before, broadcast.Searching):
+                locks_after_an_end += ended and isinstance(
+                    receiver, broadcast.InPhase)
+            elif isinstance(before, broadcast.Waiting):
+                ends_with_error += signal == 255
+                if isinstance(receiver, broadcast.Searching):
                     ended = True
                     ends += 1
-                    ends_with_error += signal == 255
-                elif before.number % 2 == 1:
-                    dx = before.dx.get((before.number - 5) // 2, 0)
-                    unlike += signal == 255 and dx in good and word in good
-        except programs.NotANumber:
-            pass
-    assert mutilated > 5000 and unlike > 1000 and ends > 500
-    assert locks_after_an_end > 400 and ends_with_error > 20
+            elif before.number % 2 == 1:
+                dx = before.dx.get((before.number - 5) // 2, 0)
+                unlike += signal == 255 and dx in good and word in good
+            before = receiver
+    assert mutilated > 5000 and unlike > 1000 and ends > 1000
+    assert locks_after_an_end > 800 and ends_with_error > 100
+
+
+def waits_heard():
+    """Of the inputs of `receive`, each wait that is heard whole: whether printing
+    had begun, the DX of the waiting position, the three words, what the first of
+    them printed, and some words behind them."""
+    for words, receivers, out in receive_runs():
+        for at, receiver in enumerate(receivers[:-3]):
+            if isinstance(receiver, broadcast.Waiting) and receiver.wait == 3:
+                yield (receiver.printing, receiver.dx, words[at + 1:at + 4],
+                       out[at + 1], words[at + 4:at + 12])
+
+
+def sort_of(word):
+    return ("alpha" if word == ALPHA else "RQ" if word == RQ else "beta"
+            if word == BETA else "traffic" if word in TRAFFIC else "damage")
+
+
+def locked_behind(words):
+    """How many of the words it takes to find four that alternate; None where
+    there are none."""
+    for number in range(4, len(words) + 1):
+        if words[number - 4:number] in ([ALPHA, RQ] * 2, [RQ, ALPHA] * 2):
+            return number
+    return None
+
+
+def inputs_of_waits():
+    """02, T-03: what the inputs of `receive` hold of the three words."""
+    found = {}
+    good = set(INTACT)
+    for printing, dx, three, printed_first, behind in waits_heard():
+        rx = three[0]
+        alike = ("alike" if dx == rx else "unlike") if {dx, rx} <= good else (
+            "DX" if dx in good else "RX" if rx in good else "neither")
+        keys = [("settled by", alike, printing), ("printing before", printing)]
+        if not printing and printed_first is not None:
+            keys.append(("printing begins by", alike))
+        if printing:
+            keys += [("word", place, sort_of(word)) for place, word in enumerate(three)]
+            keys.append(("printed", "error" if printed_first == 255 else
+                         "nothing" if printed_first is None else "signal"))
+        # Four that alternate: the last of them, counted behind the three words,
+        # where the three count too and where they do not.
+        late = locked_behind(behind)
+        early = locked_behind(three + behind)
+        if early is not None and early < 7:
+            keys.append(("four across, behind the wait", early - 3, late is None))
+        if late == 4:
+            keys.append(("four directly behind", sort_of(three[2])))
+        # A bulletin that begins within the wait.
+        if [ALPHA, RQ] in (three[1:], three[:2]) or three[1:] == [RQ, ALPHA]:
+            keys.append(("phasing in the wait",))
+        for key in keys:
+            found[key] = found.get(key, 0) + 1
+
+    def has(least, *key):
+        assert found.get(key, 0) >= least, (key, found.get(key, 0))
+
+    for alike in ("alike", "unlike", "DX", "RX", "neither"):
+        has(30, "settled by", alike, True)
+        has(5, "settled by", alike, False)
+    for alike in ("alike", "DX", "RX"):
+        has(5, "printing begins by", alike)
+    for printing in (False, True):
+        has(100, "printing before", printing)
+    for word in ("alpha", "RQ", "traffic", "damage"):
+        for place in range(3):
+            has(40, "word", place, word)
+    for what in ("error", "nothing", "signal"):
+        has(50, "printed", what)
+    for behind in (1, 2, 3):
+        # A receiver that feeds the wait to its search would lock there, and the
+        # right one not at all.
+        has(10, "four across, behind the wait", behind, True)
+    for last in ("alpha", "RQ", "traffic", "damage"):
+        has(30, "four directly behind", last)
+    has(50, "phasing in the wait")
+
+
+def inputs_of_waiting_records():
+    """02, T-03: what `R` of `calls` holds of receivers that wait."""
+    waits = {}              # the wait: lowest bits of the bytes 7 and 8
+    copies = set()          # at 3: printing, DX and RX
+    heard = {}              # at 2 and 1, printing begun: the words heard
+    held = {}               # at 3, 2 and 1: whether two alpha are held
+    searching = set()       # the wait beside a search that is not refused
+    runs = set()            # the run beside a receiver in phase
+    for data in gate_inputs("calls"):
+        for first, behind in inputs.call_records(data):
+            if data[first:first + 1] != b"R":
+                continue
+            fields = data[first:behind]
+            if fields[1] % 2 == 0:
+                if fields[2] <= 3:
+                    searching.add(fields[9])
+                continue
+            wait, printing = fields[9], fields[8] % 2
+            waits.setdefault(wait, set()).add((fields[7] % 2, printing))
+            if wait <= 3:
+                runs.add(fields[2])
+            if wait == 3:
+                copies.add((printing, fields[4], fields[10]))
+            elif 0 < wait < 3 and printing == 1:
+                heard.setdefault(wait, set()).add(fields[10])
+            if 0 < wait <= 3:
+                pair = fields[5] == fields[6] == ALPHA
+                held[wait, pair] = held.get((wait, pair), 0) + 1
+    everything = set(range(256))
+    for wait in everything:
+        assert waits[wait] == {(0, 0), (0, 1), (1, 0), (1, 1)}
+    for printing in (0, 1):
+        for dx in SORTS:
+            assert {rx for flag, one, rx in copies if (flag, one) == (printing, dx)
+                    } >= set(SORTS)
+    assert {dx for _, dx, _ in copies} == {rx for _, _, rx in copies} == everything
+    assert heard[2] == heard[1] == searching == runs == everything
+    for wait in (1, 2, 3):
+        assert held[wait, True] > 200 and held[wait, False] > 200
 
 
 def texts_to_encode():
@@ -2139,6 +2551,13 @@ def faults_not_told_are_found():
     for old, new in ((shift, "if undefined:"), ("no such piece", ""), ("case", "x")):
         told = tried("text", old, new)
         assert len(told) == 1 and told[0].startswith("BAD FAULT: a fault: ")
+    # Of two edits, both are made.
+    both = faults.Fault("a fault", ["encode"], "text", shift, "if wanted(needed):",
+                        (("def raised(", "def wanted(case):\n    return case is not None"
+                          "\n\n\ndef raised("),))
+    assert trial.try_fault(both) == []
+    for one in (both._replace(more=()), both._replace(more=(("case", "x"),))):
+        assert trial.try_fault(one)[0].startswith("BAD FAULT: a fault: ")
     for number in (0, 1, 39, 40, 41, 46, 47, 48, 500):
         assert sorted(faults.order_of(number)) == list(range(number))
 
@@ -2177,7 +2596,7 @@ def faults_of_groups_are_told():
 def faults_of_all_programs():
     tellers = {teller for one in faults.FAULTS for teller in one.tellers}
     assert tellers == set(COMPARED) | {"calls " + chr(kind) for kind in inputs.KINDS}
-    assert len({one.about for one in faults.FAULTS}) == len(faults.FAULTS) >= 340
+    assert len({one.about for one in faults.FAULTS}) == len(faults.FAULTS) >= 400
     # The modules of the second program are as they were.
     assert faults.programs_with(None) is not programs.run
     assert sys.modules["programs"] is programs
@@ -2197,17 +2616,20 @@ TESTS = [
     identities_kept, whole_call,
     demand_three, demand_three_from_a_call,
     sender_examples, sender_corners, search_is_last_four, lock_either_way,
-    lock_at_a_break, end_of_reception, settling, perfect_copy,
+    lock_at_a_break, end_of_reception, three_words_more, three_words_are_swallowed,
+    sender_stops_within_the_wait, waits_refused, reception_by_the_list, settling,
+    perfect_copy, perfect_copy_of_01, copies_are_needed, last_letter_of_a_bulletin,
     hear_example, words_in_and_out, whole_runs, script_gives_whole_runs,
     letter_through_all, steps_records, steps_records_of_calls,
     calls_records, meaning_records, identity_records,
-    receive_records, receive_records_run_on,
+    receive_records, receive_records_that_wait, receive_records_run_on,
     receive_records_cut,
     compare_names_all_programs, compare_counts_inputs,
     compare_tells_who_does_not_answer,
     inputs_are_bytes, inputs_at_borders, inputs_tell_each_line,
-    inputs_of_steps, inputs_of_calls, inputs_of_receive, inputs_of_small_letters,
-    inputs_of_groups, conversations_are_answered,
+    inputs_of_steps, inputs_of_calls, inputs_of_receive, inputs_of_waits,
+    inputs_of_waiting_records, inputs_of_small_letters, inputs_of_groups,
+    conversations_are_answered,
     faults_not_told_are_found, faults_of_groups_are_told, faults_of_all_programs,
 ]
 
