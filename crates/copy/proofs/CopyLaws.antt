@@ -7,17 +7,17 @@ use Prim.Native.Nat.{ℕ, zero, suc, _+_, _*_, _≤_, _<_}
 use native.Mathlib.Omega.{arith}
 use lib.Dec.{eqb, leb}
 use borrow.Author.Tests.{eqb-true, eqb-false, leb-true, leb-false}
-use lib.ListN.{length, getD, replicate, length-append}
+use lib.ListN.{length, replicate, length-append}
 use Rattle.laws.specs.Choice.{if_then_else_}
-use Rattle.signals.specs.Meaning.{trafficOf, meaningOf, alpha, rq}
+use Rattle.signals.specs.Meaning.{trafficOf, meaningOf, rq}
 use Rattle.mode_b.specs.declared.Receiver.{Receiver}
 use Rattle.mode_b.specs.Sender.{Position, carriageReturn, lineFeed, withBreaks, positionsOf, slotsFrom, slotsOf}
 use Rattle.signals.specs.Damage.{Damage, kept, hurt, arrives, NoSignal}
 use Rattle.copy.specs.Run.{Damages, heardFrom, listen}
-use Rattle.copy.specs.Premise.{Text, Clause, Premise, LatePremise, FormerPremise, EndsAfter, PerfectCopy, DxIntact, RxIntact, RxSent, spanOf, lastTraffic}
+use Rattle.copy.specs.Premise.{Text, Clause, Premise, LatePremise, FormerPremise, EndsAfter, PerfectCopy, DxIntact, RxIntact, RxSent, lastTraffic}
 use Rattle.copy.specs.Reading.{twoOn, fiveOn, damaged, intactα, endsBehind, lost, trafficIn, seenFrom}
 use Rattle.copy.proofs.WordLaws.{traffic}
-use Rattle.copy.proofs.StepLaws.{inPhase, hurt-kept, settles-unbegun}
+use Rattle.copy.proofs.StepLaws.{hurt-kept, settles-unbegun}
 use Rattle.copy.proofs.QuietLaws.{AllIdle}
 use Rattle.copy.proofs.SearchLaws.{alternate, At, at4, s4, locked}
 use Rattle.copy.proofs.ReadingLaws.{Ordered, rest, alpha-heard, position, reads, begins-here, breaks-ordered}
@@ -52,12 +52,12 @@ module _ (d : Damages) where
       go true e ih = rw e (sym (idle-traffic (q ∷ r ∷ ps) (n .1 e)))
       go false e ih = rw e (ih e)
 
--- The premise, position by position.
-both-kept : (a b : Damage) → (a ≡ kept) ⊎ (b ≡ kept) → damaged a && damaged b ≡ false
-both-kept kept b c = refl
-both-kept (hurt u) kept c = refl
-both-kept (hurt u) (hurt v) (inl e) = absurd (hurt-kept u e)
-both-kept (hurt u) (hurt v) (inr e) = absurd (hurt-kept v e)
+-- The premise, position by position. With one copy kept a position is not lost.
+copy-kept : (a b : Damage) → (a ≡ kept) ⊎ (b ≡ kept) → damaged a && damaged b ≡ false
+copy-kept kept b c = refl
+copy-kept (hurt u) kept c = refl
+copy-kept (hurt u) (hurt v) (inl e) = absurd (hurt-kept u e)
+copy-kept (hurt u) (hurt v) (inr e) = absurd (hurt-kept v e)
 
 module _ (text : List ℕ) (d : Damages) where
   -- from position t on each has a copy, as long as reception has not ended behind one of these; there are n positions in all
@@ -85,7 +85,7 @@ module _ (text : List ℕ) (d : Damages) where
   one-more : (n k t : ℕ) (p q r : Position) (ps : List Position) → k ≡ 2 * t → t + 2 < n → Ordered (p ∷ q ∷ r ∷ ps) → Copies n t → (EndsAfter text d t → endsBehind d k q r ≡ true) → (Copies n (suc t) → NoneLost d (twoOn k) (q ∷ r ∷ ps)) → NoneLost d k (p ∷ q ∷ r ∷ ps)
   one-more n k t p q r ps e h o c f g =
       let i : fiveOn k ≡ 2 * t + 5 = omega arith in (
-        rw (i, e) (both-kept (d (2 * t)) (d (2 * t + 5)) (c t (omega arith) h (λ e l m x. omega arith))),
+        rw (i, e) (copy-kept (d (2 * t)) (d (2 * t + 5)) (c t (omega arith) h (λ e l m x. omega arith))),
         (λ y. all-idle q r ps (d (twoOn k)) (intactα r (d (twoOn (twoOn k)))) (rest p (q ∷ r ∷ ps) o) y),
         (λ y. g (next n t c (λ x. false≢true (sym y ∙ f x)))),
       )
@@ -146,7 +146,7 @@ late-copy start text d t p =
         none-lost text d (withBreaks 0 (carriageReturn ∷ lineFeed ∷ text)) (lastTraffic text + 18) 32 16 refl (omega arith) refl ordered (λ s l u f. p .copies s l (omega (arith, positions-length text)) (λ e h x. f e (omega (arith, x .behind-the-text)) h x))
 
     return-kept : lost d 32 ≡ false
-    return-kept = both-kept (d 32) (d 37) (p .copies 16 (omega arith) (omega (arith, positions-length text)) (λ e h x. let b = x .behind-the-text in omega arith))
+    return-kept = copy-kept (d 32) (d 37) (p .copies 16 (omega arith) (omega (arith, positions-length text)) (λ e h x. let b = x .behind-the-text in omega arith))
 
     begin : (r : Receiver) → At true s4 r → listen r (heardFrom d 32 (slotsFrom Position.phasing Position.phasing (fromReturn text))) ≡ carriageReturn ∷ lineFeed ∷ text
     begin r (at4 a b c x y z) =

@@ -8,7 +8,6 @@ use native.Mathlib.Omega.{arith}
 use lib.Dec.{eqb}
 use lib.ListN.{replicate}
 use Rattle.laws.specs.Choice.{if_then_else_}
-use Rattle.signals.specs.Units.{intactOf, onesOf}
 use Rattle.signals.specs.Meaning.{trafficOf, meaningOf, alpha, rq, errorMark}
 use Rattle.mode_b.specs.declared.Phasing.{Phasing}
 use Rattle.mode_b.specs.declared.Receiver.{Receiver}
@@ -122,10 +121,6 @@ and-left true b e = refl
 and-left false b e = e
 
 module _ (d : Damages) (good : (k : ℕ) → NoSignal (d k)) where
-  -- the two DX slots behind position k end reception exactly where two α are kept there
-  ending : (k : ℕ) (q r : Position) → Word q → Word r → eqb (arrives (d (twoOn (twoOn k))) (dxOf r)) alpha && eqb (arrives (d (twoOn k)) (dxOf q)) alpha ≡ endsBehind d k q r
-  ending k q r s t = rw (alpha-heard r t (d (twoOn (twoOn k))) (good (twoOn (twoOn k))), alpha-heard q s (d (twoOn k)) (good (twoOn k))) (and-swap (intactα r (d (twoOn (twoOn k)))) (intactα q (d (twoOn k))))
-
   -- the words from slot k on
   abbrev heardOn : ℕ → Position → Position → List Position → List ℕ
   heardOn k before last ps = heardFrom d k (slotsFrom before last ps)
@@ -142,86 +137,60 @@ module _ (d : Damages) (good : (k : ℕ) → NoSignal (d k)) where
   more-idle (Position.signal w) ps i = absurd i
   more-idle Position.idle ps i = i
 
-  after-end : (k j : ℕ) (q r : Position) (ps : List Position) → Ordered (q ∷ r ∷ ps) → intactα q (d j) && intactα r (d (twoOn j)) ≡ true → (a b c : ℕ) (printing : Bool) → listen (waitingFor 2 a b c true printing) (heardOn k q r ps) ≡ []
-  after-end k j q r ps o e a b c printing =
-      quiet-behind d good ps (more-idle r ps (idle-rest q (d j) (r ∷ ps) (and-left (intactα q (d j)) (intactα r (d (twoOn j))) e) o)) k q r (word q (r ∷ ps) o) (word r ps (rest q (r ∷ ps) o)) a b c true printing
+  -- The same where the DX of the position before was heard in slot j: if that was α and this one is, reception ends and nothing more is
+  -- printed.
+  goes-on : (first x j : ℕ) (before last p : Position) (ps : List Position) (printing : Bool) → Ordered (last ∷ p ∷ ps) → listen (inPhase first x (arrives (d j) (dxOf last)) true printing) (heardOn (twoOn j) before last (p ∷ ps)) ≡ one (printedOf printing (settled x (arrives (d (suc (twoOn j))) (rxOf before)))) ++ (if intactα last (d j) && intactα p (d (twoOn j)) then [] else listen (inPhase x (arrives (d j) (dxOf last)) (arrives (d (twoOn j)) (dxOf p)) true (printingAfter printing (settled x (arrives (d (suc (twoOn j))) (rxOf before))))) (heardOn (twoOn (twoOn j)) last p ps))
+  goes-on first x j before last p ps printing o = go (intactα last (d j) && intactα p (d (twoOn j))) refl
+    where
+      test : eqb (arrives (d (twoOn j)) (dxOf p)) alpha && eqb (arrives (d j) (dxOf last)) alpha ≡ intactα last (d j) && intactα p (d (twoOn j))
+      test =
+          rw (alpha-heard p (word p ps (rest last (p ∷ ps) o)) (d (twoOn j)) (good (twoOn j)), alpha-heard last (word last (p ∷ ps) o) (d j) (good j))
+          (and-swap (intactα p (d (twoOn j))) (intactα last (d j)))
+
+      go : (t : Bool) → intactα last (d j) && intactα p (d (twoOn j)) ≡ t → listen (inPhase first x (arrives (d j) (dxOf last)) true printing) (heardOn (twoOn j) before last (p ∷ ps)) ≡ one (printedOf printing (settled x (arrives (d (suc (twoOn j))) (rxOf before)))) ++ (if intactα last (d j) && intactα p (d (twoOn j)) then [] else listen (inPhase x (arrives (d j) (dxOf last)) (arrives (d (twoOn j)) (dxOf p)) true (printingAfter printing (settled x (arrives (d (suc (twoOn j))) (rxOf before))))) (heardOn (twoOn (twoOn j)) last p ps))
+      go true e =
+          let i = more-idle p ps (idle-rest last (d j) (p ∷ ps) (and-left (intactα last (d j)) (intactα p (d (twoOn j))) e) o) in
+          position first x (arrives (d j) (dxOf last)) before last p ps (twoOn j) printing true (test ∙ e)
+          ∙ rw (e, quiet-behind d good ps i (twoOn (twoOn j)) last p (word last (p ∷ ps) o) (word p ps (rest last (p ∷ ps) o)) x (arrives (d j) (dxOf last)) (arrives (d (twoOn j)) (dxOf p)) true (printingAfter printing (settled x (arrives (d (suc (twoOn j))) (rxOf before)))))
+      go false e = position first x (arrives (d j) (dxOf last)) before last p ps (twoOn j) printing false (test ∙ e) ∙ rw e
 
   -- once printing has begun, or where it begins with the first of these positions
   pub reads : (ps : List Position) (k first : ℕ) (before last : Position) (printing : Bool) → Ready before (lost d k) printing → Ordered (before ∷ last ∷ ps) → listen (inPhase first (arrives (d k) (dxOf before)) (arrives (d (twoOn k)) (dxOf last)) true printing) (heardOn (twoOn (twoOn k)) before last ps) ≡ seenFrom d k (before ∷ last ∷ ps)
   unfolding seenFrom
   reads [] k first before last printing y o = unfold listen heardFrom slotsFrom in refl
-  reads (p ∷ ps) k first before last printing y o = go (reads ps (twoOn k) (arrives (d k) (dxOf before)) last p true printing-on (rest before (last ∷ p ∷ ps) o)) (endsBehind d k last p) refl
-    where
-      ol : Ordered (last ∷ p ∷ ps)
-      ol = rest before (last ∷ p ∷ ps) o
-
-      test : eqb (arrives (d (twoOn (twoOn k))) (dxOf p)) alpha && eqb (arrives (d (twoOn k)) (dxOf last)) alpha ≡ endsBehind d k last p
-      test = ending k last p (word last (p ∷ ps) ol) (word p ps (rest last (p ∷ ps) ol))
-
-      s : Sees before (d k) (d (fiveOn k)) printing
-      s = sees-ready before (word before (last ∷ p ∷ ps) o) (d k) (d (fiveOn k)) (good k) (good (fiveOn k)) printing y
-
-      go : listen (inPhase (arrives (d k) (dxOf before)) (arrives (d (twoOn k)) (dxOf last)) (arrives (d (twoOn (twoOn k))) (dxOf p)) true true) (heardOn (twoOn (twoOn (twoOn k))) last p ps) ≡ seenFrom d (twoOn k) (last ∷ p ∷ ps) → (t : Bool) → endsBehind d k last p ≡ t → listen (inPhase first (arrives (d k) (dxOf before)) (arrives (d (twoOn k)) (dxOf last)) true printing) (heardOn (twoOn (twoOn k)) before last (p ∷ ps)) ≡ seen before (lost d k) ++ (if endsBehind d k last p then [] else seenFrom d (twoOn k) (last ∷ p ∷ ps))
-      go ih true e =
-          position first (arrives (d k) (dxOf before)) (arrives (d (twoOn k)) (dxOf last)) before last p ps (twoOn (twoOn k)) printing true (test ∙ e)
-          ∙ rw (s .0, s .1, e, after-end (twoOn (twoOn (twoOn k))) (twoOn k) last p ps ol e (arrives (d k) (dxOf before)) (arrives (d (twoOn k)) (dxOf last)) (arrives (d (twoOn (twoOn k))) (dxOf p)) true)
-      go ih false e =
-          position first (arrives (d k) (dxOf before)) (arrives (d (twoOn k)) (dxOf last)) before last p ps (twoOn (twoOn k)) printing false (test ∙ e)
-          ∙ rw (s .0, s .1, e, ih)
+  reads (p ∷ ps) k first before last printing y o =
+      let ol = rest before (last ∷ p ∷ ps) o in
+      let s = sees-ready before (word before (last ∷ p ∷ ps) o) (d k) (d (fiveOn k)) (good k) (good (fiveOn k)) printing y in
+      goes-on first (arrives (d k) (dxOf before)) (twoOn k) before last p ps printing ol
+      ∙ rw (s .0, s .1, reads ps (twoOn k) (arrives (d k) (dxOf before)) last p true printing-on ol)
 
   -- in phase, before printing has begun
   printed-as : {k : ℕ} {ps : List Position} {xs ys : List ℕ} → xs ≡ ys → Printed d k ps ys → Printed d k ps xs
   printed-as e p = rw e p
 
+  if-on : {k : ℕ} {ps : List Position} {xs : List ℕ} (ends : Bool) → Printed d k ps xs → Printed d k ps (if ends then [] else xs)
+  if-on true p = nothing
+  if-on false p = p
+
   unbegun : (ps : List Position) (k first : ℕ) (before last : Position) → Ordered (before ∷ last ∷ ps) → Printed d k (before ∷ last ∷ ps) (listen (inPhase first (arrives (d k) (dxOf before)) (arrives (d (twoOn k)) (dxOf last)) true false) (heardOn (twoOn (twoOn k)) before last ps))
   unbegun [] k first before last o = unfold listen heardFrom slotsFrom in nothing
   unbegun (p ∷ ps) k first before last o = go (unbegun ps (twoOn k) (arrives (d k) (dxOf before)) last p (rest before (last ∷ p ∷ ps) o)) (firsts before (word before (last ∷ p ∷ ps) o) (d k) (d (fiveOn k)) (good k) (good (fiveOn k)))
     where
-      ol : Ordered (last ∷ p ∷ ps)
-      ol = rest before (last ∷ p ∷ ps) o
-
-      test : eqb (arrives (d (twoOn (twoOn k))) (dxOf p)) alpha && eqb (arrives (d (twoOn k)) (dxOf last)) alpha ≡ endsBehind d k last p
-      test = ending k last p (word last (p ∷ ps) ol) (word p ps (rest last (p ∷ ps) ol))
-
-      on : Printed d (twoOn k) (last ∷ p ∷ ps) (listen (inPhase (arrives (d k) (dxOf before)) (arrives (d (twoOn k)) (dxOf last)) (arrives (d (twoOn (twoOn k))) (dxOf p)) true false) (heardOn (twoOn (twoOn (twoOn k))) last p ps)) → (t : Bool) → endsBehind d k last p ≡ t → Quiet false (settled (arrives (d k) (dxOf before)) (arrives (d (fiveOn k)) (rxOf before))) → Printed d k (before ∷ last ∷ p ∷ ps) (listen (inPhase first (arrives (d k) (dxOf before)) (arrives (d (twoOn k)) (dxOf last)) true false) (heardOn (twoOn (twoOn k)) before last (p ∷ ps)))
-      on ih true e q =
-          printed-as
-          (position first (arrives (d k) (dxOf before)) (arrives (d (twoOn k)) (dxOf last)) before last p ps (twoOn (twoOn k)) false true (test ∙ e)
-          ∙ rw (q .0, q .1, after-end (twoOn (twoOn (twoOn k))) (twoOn k) last p ps ol e (arrives (d k) (dxOf before)) (arrives (d (twoOn k)) (dxOf last)) (arrives (d (twoOn (twoOn k))) (dxOf p)) false))
-          nothing
-      on ih false e q =
-          printed-as
-          (position first (arrives (d k) (dxOf before)) (arrives (d (twoOn k)) (dxOf last)) before last p ps (twoOn (twoOn k)) false false (test ∙ e)
-          ∙ rw (q .0, q .1))
-          (behind ih)
-
       go : Printed d (twoOn k) (last ∷ p ∷ ps) (listen (inPhase (arrives (d k) (dxOf before)) (arrives (d (twoOn k)) (dxOf last)) (arrives (d (twoOn (twoOn k))) (dxOf p)) true false) (heardOn (twoOn (twoOn (twoOn k))) last p ps)) → First before (lost d k) (settled (arrives (d k) (dxOf before)) (arrives (d (fiveOn k)) (rxOf before))) → Printed d k (before ∷ last ∷ p ∷ ps) (listen (inPhase first (arrives (d k) (dxOf before)) (arrives (d (twoOn k)) (dxOf last)) true false) (heardOn (twoOn (twoOn k)) before last (p ∷ ps)))
-      go ih (quiet q) = on ih (endsBehind d k last p) refl q
+      go ih (quiet q) =
+          printed-as
+          (goes-on first (arrives (d k) (dxOf before)) (twoOn k) before last p ps false (rest before (last ∷ p ∷ ps) o) ∙ rw (q .0, q .1))
+          (if-on (endsBehind d k last p) (behind ih))
       go ih (opens w e b m) = printed-as (reads (p ∷ ps) k first before last false (begins-here w e b m) o) (rw e (here b m))
 
   -- just in phase: one waiting word, or both, taken for RQ
   one-counted : (ps : List Position) (k first : ℕ) (before last : Position) → Ordered (last ∷ ps) → Printed d k (last ∷ ps) (listen (inPhase first rq (arrives (d k) (dxOf last)) true false) (heardOn (twoOn k) before last ps))
   one-counted [] k first before last o = unfold listen heardFrom slotsFrom in nothing
-  one-counted (p ∷ ps) k first before last o = go (intactα last (d k) && intactα p (d (twoOn k))) refl
-    where
-      test : eqb (arrives (d (twoOn k)) (dxOf p)) alpha && eqb (arrives (d k) (dxOf last)) alpha ≡ intactα last (d k) && intactα p (d (twoOn k))
-      test =
-          rw (alpha-heard p (word p ps (rest last (p ∷ ps) o)) (d (twoOn k)) (good (twoOn k)), alpha-heard last (word last (p ∷ ps) o) (d k) (good k))
-          (and-swap (intactα p (d (twoOn k))) (intactα last (d k)))
-
-      q : Quiet false (settled rq (arrives (d (suc (twoOn k))) (rxOf before)))
-      q = settles-counted (arrives (d (suc (twoOn k))) (rxOf before))
-
-      go : (t : Bool) → intactα last (d k) && intactα p (d (twoOn k)) ≡ t → Printed d k (last ∷ p ∷ ps) (listen (inPhase first rq (arrives (d k) (dxOf last)) true false) (heardOn (twoOn k) before last (p ∷ ps)))
-      go true e =
-          printed-as
-          (position first rq (arrives (d k) (dxOf last)) before last p ps (twoOn k) false true (test ∙ e)
-          ∙ rw (q .0, q .1, after-end (twoOn (twoOn k)) k last p ps o e rq (arrives (d k) (dxOf last)) (arrives (d (twoOn k)) (dxOf p)) false))
-          nothing
-      go false e =
-          printed-as
-          (position first rq (arrives (d k) (dxOf last)) before last p ps (twoOn k) false false (test ∙ e) ∙ rw (q .0, q .1))
-          (unbegun ps k rq last p o)
+  one-counted (p ∷ ps) k first before last o =
+      let q = settles-counted (arrives (d (suc (twoOn k))) (rxOf before)) in
+      printed-as
+      (goes-on first rq k before last p ps false o ∙ rw (q .0, q .1))
+      (if-on (intactα last (d k) && intactα p (d (twoOn k))) (unbegun ps k rq last p o))
 
   both-counted : (ps : List Position) (k first : ℕ) (before last : Position) → Ordered ps → Printed d k ps (listen (inPhase first rq rq true false) (heardOn k before last ps))
   both-counted [] k first before last o = unfold listen heardFrom slotsFrom in nothing
