@@ -180,7 +180,7 @@ perfect-copy start text d t p =
           no-signal = p Clause.no-signal;
         }
 
--- What was a perfect copy before T-03 is one still.
+-- What paper 01's own premises allow, without T-03, is a perfect copy too.
 pub former-copy : (start : ℕ) (text : List ℕ) (d : Damages) → Text text → FormerPremise start text d → PerfectCopy start text d
 former-copy start text d t p =
     late-copy start text d t

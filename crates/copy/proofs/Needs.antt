@@ -1,6 +1,6 @@
 -- Each clause of 01's premise is needed: a broadcast of the text E that fails where that clause alone is dropped. E has 36 positions
--- and 72 slots: 16 is the return, 17 the line feed, 18 E, and 19 the first α. And the premise is met by broadcasts that the one before
--- T-03 left out. Assumes nothing.
+-- and 72 slots: 16 is the return, 17 the line feed, 18 E, and 19 the first α. And the premise is met by broadcasts that paper 01's
+-- own, without T-03, leaves out. Assumes nothing.
 use mathlib.Core.Path.{_≡_, refl, ap, sym, _∙_}
 use mathlib.Core.Bool.{Bool, true, false, _&&_, _||_}
 use mathlib.Core.Logic.{_⊎_, inl, inr}
@@ -166,7 +166,7 @@ each-clause-needed phasing = needed phasing 0 0 no-four _ tt unphased-run (λ l.
 each-clause-needed copies = needed copies 0 0 (34 ∷ 39 ∷ []) _ tt uncopied-run (nth 1) (λ e. omega arith)
 each-clause-needed no-signal = needed no-signal 0 (wordNo 1) (39 ∷ []) _ tt signal-run (nth 1) (λ e. omega arith)
 
--- The premise allows what the one before T-03 did not: here the DX of E and of the first two α are lost.
+-- The premise allows what paper 01's own, without T-03, does not: here the DX of E and of the first two α are lost.
 pub allows-more : Premise 0 E (hurtAt 0 (36 ∷ 38 ∷ 40 ∷ [])) × (FormerPremise 0 E (hurtAt 0 (36 ∷ 38 ∷ 40 ∷ [])) → ⊥)
 allows-more = (met, λ f. hurt-kept 0 (unfold withBreaks in (f .last)))
   where

@@ -53,7 +53,8 @@ last-lost : copyFrom 0 E (lostAt (36 ∷ 41 ∷ [])) ≡ carriageReturn ∷ line
 unfolding slotsOf positionsOf slotsFrom withBreaks heardFrom listen heardDx heardRx waited settled intactOf onesOf trafficOf meaningOf
 last-lost = refl
 
--- a damaged end: the DX of E and of the first two α are lost. Each has its RX, and the end comes two positions later: a perfect copy.
+-- a damaged end: the DX of E and of the first two α are lost, and the RX of return and line feed between them. Each position has its
+-- other copy, and the end comes two positions later: a perfect copy.
 damaged-end : copyFrom 0 E (lostFrom 36 5) ≡ carriageReturn ∷ lineFeed ∷ E
 unfolding slotsOf positionsOf slotsFrom withBreaks heardFrom listen heardDx heardRx waited settled intactOf onesOf trafficOf meaningOf
 damaged-end = refl
@@ -73,7 +74,7 @@ unfolding slotsOf positionsOf slotsFrom withBreaks heardFrom listen heardDx hear
 lost-end = refl
 
 -- Only the last two α are heard in DX, in slots 68 and 70: the sender stops one word later, within the wait. The copy is perfect; and
--- of what comes behind two words, whatever they are, are still of the wait.
+-- the next two words, whatever they are, still belong to the wait.
 abbrev only-last-two : Damages
 only-last-two k = if leb 38 k && ltb k 68 && eqb (k % 2) 0 then hurt 0 else kept
 
@@ -81,7 +82,7 @@ stops-within-the-wait : (v w : ℕ) (ws : List ℕ) → listen freshReceiver (he
 unfolding slotsOf positionsOf slotsFrom withBreaks heardFrom listen heardDx heardRx waited settled intactOf onesOf trafficOf meaningOf
 stops-within-the-wait v w ws = refl
 
--- in the ordinary end three words are of the wait, and no fourth
+-- in the ordinary end three words belong to the wait, and no fourth
 three-words : (v w : ℕ) (ws : List ℕ) → listen freshReceiver (heardFrom (lostAt []) 0 (take 41 (slotsOf E)) ++ wordNo 5 ∷ v ∷ w ∷ ws) ≡ carriageReturn ∷ lineFeed ∷ wordNo 5 ∷ listen freshReceiver ws
 unfolding slotsOf positionsOf slotsFrom withBreaks heardFrom listen heardDx heardRx waited settled intactOf onesOf trafficOf meaningOf
 three-words v w ws = refl

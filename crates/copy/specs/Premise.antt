@@ -68,7 +68,8 @@ Holds no-signal start text d = (k : ℕ) → NoSignal (d k)
 abbrev pub Premise : ℕ → List ℕ → Damages → Type 0
 Premise start text d = (c : Clause) → Holds c start text d
 
--- Two successive α are heard in DX right behind position t: it is the last traffic position, or an α position.
+-- Two successive α are heard in DX right behind position t: it is the last traffic position, or an α position. (Of a t that is followed
+-- by two positions.)
 pub record EndsAfter (text : List ℕ) (d : Damages) (t : ℕ) : Type 0 where
   pub behind-the-text : lastTraffic text ≤ t
   pub first-α : DxIntact d (t + 1)
@@ -82,8 +83,8 @@ pub record LatePremise (start : ℕ) (text : List ℕ) (d : Damages) : Type 0 wh
   pub copies : (t : ℕ) → 16 ≤ t → t + 2 < length (positionsOf text) → ((e : ℕ) → e < t → EndsAfter text d e → ⊥) → DxIntact d t ⊎ RxIntact d t
   pub no-signal : (k : ℕ) → NoSignal (d k)
 
--- What was enough before T-03: copies from the return to the last traffic position, and an intact DX of that one and of the first two
--- α positions. 01's former premise asked for more: slot 0, and a copy of each position.
+-- The weaker premise of paper 01 itself, without T-03: copies from the return to the last traffic position, and an intact DX of that one
+-- and of the first two α positions. 01's own premise asks for these too; it is the present one with three clauses more.
 pub record FormerPremise (start : ℕ) (text : List ℕ) (d : Damages) : Type 0 where
   pub phasing : FourIntact start d
   pub copies : (t : ℕ) → 16 ≤ t → t ≤ lastTraffic text → DxIntact d t ⊎ RxIntact d t

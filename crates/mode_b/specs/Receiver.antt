@@ -98,8 +98,9 @@ heardRx p w left =
     (InPhase (record { first = p .first; second = p .second; third = p .third; dx = true; printing = printingAfter (p .printing) (settled (p .first) w); wait = left }))
     (printedOf (p .printing) (settled (p .first) w))
 
--- In a DX slot the word waits. "Two successive intact α in DX", and 02, T-03: "hear three more signals after the second α"  R-122:
--- the third word is the DX before this one.
+-- In a DX slot the word waits. "Two successive intact α in DX", and 02, T-03: "hear three more signals after the second α"  R-122.
+-- `third` is the DX before this one, and `second` that of the position before it, which becomes `first`: at the end it is the one that
+-- waits.
 abbrev pub waitAfter : ℕ → ℕ → ℕ
 waitAfter before w = if eqb w alpha && eqb before alpha then 3 else 0
 
@@ -113,6 +114,7 @@ heardDx p w =
 --     3   "settle the waiting position in the ordinary way"               R-123
 --     2   a word that prints nothing, whatever it is                      R-122
 --     1   likewise; behind it "the receiver searches anew"                R-124
+-- `dx` goes on saying which slot comes next, and the words stay; neither is looked at any more.
 unfoldable pub waited : Phase → ℕ → Heard
 waited p w =
     if eqb (p .wait) 3 then heardRx p w 2
@@ -154,10 +156,10 @@ Receives r w a = (saidReceived a ≡ receiving r w) × (handedBack a ≡ receive
 -- hears α in this one: whatever the three words behind it are. That it holds is `reception-ends` (proofs/EndLaws.antt).
 --     at-the-end   nothing is printed at the second α
 --     waiting      "hear three more signals after the second α and settle the waiting position in the ordinary way": by the word
---                  that was kept as its DX and the first of the three as its RX                                    R-122, R-123
+--                  that was kept as its DX (`second`) and the first of the three as its RX                          R-122, R-123
 --     second       the second of the three prints nothing,                                                          R-122
 --     third        nor does the third
---     anew         "the receiver searches anew": as one that has heard nothing, these words neither                  R-124
+--     anew         "the receiver searches anew": as a fresh one, so none of these words counts for the search        R-124
 abbrev pub printedIn : Answer Heard → ℕ
 printedIn (answered h) = h .printed
 printedIn (refused n v) = 0

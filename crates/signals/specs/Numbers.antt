@@ -5,7 +5,7 @@
 --         text for mode B (traffic), printing (traffic, 255)             index of the first
 --     4   station with count over 31, an Ending total not 1 to 4, or a
 --         held word neither traffic nor β; receiver with a search run
---         over 3                                                         0
+--         over 3, or with a remaining wait over 3 (02, T-03)             0
 --     5   encoding: over 4,096 characters                                4,096
 --     6   mode B: slot past the last                                     number of slots
 --     7   over 8,192 signals for mode B or printing                      8,192
