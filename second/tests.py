@@ -1513,7 +1513,8 @@ def perfect_copy():
 
 
 def perfect_copy_of_01():
-    """Under 01's own premise, with its three intact DX copies at the end."""
+    """Under the premise of paper 01 without T-03, with its three intact DX
+    copies at the end."""
     draw = random.Random(8)
     for run in range(200):
         length = draw.choice((0, 1, 2, 50, 94, 95, 200))

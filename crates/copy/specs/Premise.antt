@@ -84,7 +84,7 @@ pub record LatePremise (start : ℕ) (text : List ℕ) (d : Damages) : Type 0 wh
   pub no-signal : (k : ℕ) → NoSignal (d k)
 
 -- The weaker premise of paper 01 itself, without T-03: copies from the return to the last traffic position, and an intact DX of that one
--- and of the first two α positions. 01's own premise asks for these too; it is the present one with three clauses more.
+-- and of the first two α positions. The premise that stands in paper 01 is the present one with these three clauses more.
 pub record FormerPremise (start : ℕ) (text : List ℕ) (d : Damages) : Type 0 where
   pub phasing : FourIntact start d
   pub copies : (t : ℕ) → 16 ≤ t → t ≤ lastTraffic text → DxIntact d t ⊎ RxIntact d t
