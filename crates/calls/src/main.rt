@@ -10,6 +10,7 @@ use mode_b::Phasing;
 use mode_b::Received;
 use mode_b::Receiver;
 use mode_b::Slot;
+use mode_b::Wait;
 use signals::Case;
 use text::Encoded;
 use text::Printed;
@@ -175,6 +176,15 @@ fn receiver_of(head: &[u8; 10]) -> Receiver {
             hearing: Hearing::Searching(head[1], phasing_of(head[2])),
         };
     }
+    if head[8] != 0 {
+        return Receiver {
+            hearing: Hearing::Waiting(Wait {
+                word: head[3],
+                printing: head[7] % 2 == 1,
+                left: head[8],
+            }),
+        };
+    }
     Receiver {
         hearing: Hearing::InPhase(Phase {
             first: head[3],
@@ -182,7 +192,6 @@ fn receiver_of(head: &[u8; 10]) -> Receiver {
             third: head[5],
             dx: head[6] % 2 == 0,
             printing: head[7] % 2 == 1,
-            wait: head[8],
         }),
     }
 }
@@ -200,34 +209,12 @@ fn put_searching(line: &mut [u8], run: u8, last: Phasing) -> usize {
     }
 }
 
-// The oldest DX word: it is settled where a DX slot comes next, and at the last word of the wait.
+// The oldest DX word: where a DX slot comes next, it is settled.
 fn oldest(p: Phase) -> u8 {
     if p.dx {
         return 0;
     }
-    if p.wait == 1 {
-        return 0;
-    }
     p.first
-}
-
-// A later DX word: within the wait none is settled any more.
-fn later(word: u8, wait: u8) -> u8 {
-    if wait == 0 {
-        return word;
-    }
-    0
-}
-
-// Whether printing has begun: behind the first word of the wait nothing more is printed.
-fn begun(p: Phase) -> bool {
-    if p.wait == 0 {
-        return p.printing;
-    }
-    if p.wait == 3 {
-        return p.printing;
-    }
-    false
 }
 
 fn put_next(line: &mut [u8], at: usize, dx: bool) -> usize {
@@ -237,15 +224,25 @@ fn put_next(line: &mut [u8], at: usize, dx: bool) -> usize {
     numbers::put_all(line, at, b" rx")
 }
 
-// The DX words, the next slot, whether printing has begun, and the wait; 0 for what can no longer matter.
+// The DX words, the next slot, whether printing has begun, and a wait of 0.
 fn put_phase(line: &mut [u8], p: Phase) -> usize {
     let mut at = numbers::put_all(line, 0, b"phase");
     at = fields::put_number(line, at, oldest(p));
-    at = fields::put_number(line, at, later(p.second, p.wait));
-    at = fields::put_number(line, at, later(p.third, p.wait));
+    at = fields::put_number(line, at, p.second);
+    at = fields::put_number(line, at, p.third);
     at = put_next(line, at, p.dx);
-    at = fields::put_flag(line, at, begun(p));
-    fields::put_number(line, at, p.wait)
+    at = fields::put_flag(line, at, p.printing);
+    numbers::put_all(line, at, b" 0")
+}
+
+// The one DX word that waits, the next slot, whether printing has begun, and the wait.
+fn put_wait(line: &mut [u8], v: Wait) -> usize {
+    let mut at = numbers::put_all(line, 0, b"phase");
+    at = fields::put_number(line, at, v.word);
+    at = numbers::put_all(line, at, b" 0 0");
+    at = put_next(line, at, v.left == 2);
+    at = fields::put_flag(line, at, v.printing);
+    fields::put_number(line, at, v.left)
 }
 
 fn put_hearing(line: &mut [u8], receiver: Receiver) -> usize {
@@ -253,6 +250,7 @@ fn put_hearing(line: &mut [u8], receiver: Receiver) -> usize {
     match hearing {
         Hearing::Searching(run, last) => put_searching(line, run, last),
         Hearing::InPhase(p) => put_phase(line, p),
+        Hearing::Waiting(v) => put_wait(line, v),
     }
 }
 

@@ -162,35 +162,38 @@ late-copy start text d t p =
         ∙ seen-all d (fromReturn text) 32 not-lost
         ∙ breaks-traffic (carriageReturn ∷ lineFeed ∷ text) 0))
 
--- The perfect copy, under 01's premise.
-pub perfect-copy : (start : ℕ) (text : List ℕ) (d : Damages) → Text text → Premise start text d → PerfectCopy start text d
-perfect-copy start text d t p =
-    let e : start ≡ 0 = p Clause.from-0 in
-    rw e (late-copy 0 text d t (weaker (rw e at p)))
+-- 01's premise implies the weaker one, and so does the weaker one of paper 01 itself, without T-03.
+pub premise-is-late : (text : List ℕ) (d : Damages) → Premise 0 text d → LatePremise 0 text d
+premise-is-late text d p =
+    record {
+      phasing = p Clause.phasing;
+      copies = λ s l h f. copy s (p Clause.copies s (omega arith));
+      no-signal = p Clause.no-signal;
+    }
   where
     copy : (s : ℕ) → DxIntact d s ⊎ (RxSent text s × RxIntact d s) → DxIntact d s ⊎ RxIntact d s
     copy s (inl e) = inl e
     copy s (inr e) = inr (e .1)
 
-    weaker : Premise 0 text d → LatePremise 0 text d
-    weaker p =
-        record {
-          phasing = p Clause.phasing;
-          copies = λ s l h f. copy s (p Clause.copies s (omega arith));
-          no-signal = p Clause.no-signal;
-        }
-
--- What paper 01's own premises allow, without T-03, is a perfect copy too.
-pub former-copy : (start : ℕ) (text : List ℕ) (d : Damages) → Text text → FormerPremise start text d → PerfectCopy start text d
-former-copy start text d t p =
-    late-copy start text d t
-    (record {
+pub former-is-late : (start : ℕ) (text : List ℕ) (d : Damages) → FormerPremise start text d → LatePremise start text d
+former-is-late start text d p =
+    record {
       phasing = p .phasing;
       copies = λ s l h f. go s l f (leb s (lastTraffic text)) refl;
       no-signal = p .no-signal;
-    })
+    }
   where
     go : (s : ℕ) → 16 ≤ s → ((e : ℕ) → e < s → EndsAfter text d e → ⊥) → (b : Bool) → leb s (lastTraffic text) ≡ b → DxIntact d s ⊎ RxIntact d s
     go s l f true e = p .copies s l (leb-true s (lastTraffic text) e)
     go s l f false e =
         absurd (f (lastTraffic text) (leb-false s (lastTraffic text) e) (record { behind-the-text = omega arith; first-α = p .first-α; second-α = p .second-α }))
+
+-- The perfect copy, under 01's premise.
+pub perfect-copy : (start : ℕ) (text : List ℕ) (d : Damages) → Text text → Premise start text d → PerfectCopy start text d
+perfect-copy start text d t p =
+    let e : start ≡ 0 = p Clause.from-0 in
+    rw e (late-copy 0 text d t (premise-is-late text d (rw e at p)))
+
+-- What paper 01's own premises allow, without T-03, is a perfect copy too.
+pub former-copy : (start : ℕ) (text : List ℕ) (d : Damages) → Text text → FormerPremise start text d → PerfectCopy start text d
+former-copy start text d t p = late-copy start text d t (former-is-late start text d p)

@@ -1,6 +1,6 @@
 -- Hearing: a fresh receiver is never refused; and to listen from a later slot is to lose every slot before it. Assumes nothing.
 use mathlib.Core.Path.{_≡_, refl}
-use mathlib.Core.Bool.{Bool, true, false, _&&_}
+use mathlib.Core.Bool.{Bool, true, false}
 use mathlib.Core.List.{List, [], _∷_}
 use Prim.Native.Nat.{ℕ, zero, suc, _+_, _≤_}
 use native.Mathlib.Omega.{arith}
@@ -11,23 +11,25 @@ use Rattle.laws.specs.Choice.{if_then_else_}
 use Rattle.signals.specs.Meaning.{meaningOf, alpha, rq}
 use Rattle.mode_b.specs.declared.Phasing.{Phasing}
 use Rattle.mode_b.specs.declared.Phase.{Phase}
+use Rattle.mode_b.specs.declared.Wait.{Wait}
 use Rattle.mode_b.specs.declared.Hearing.{Hearing}
-use Rattle.mode_b.specs.declared.Hearing.the-variants.{Searching, InPhase}
+use Rattle.mode_b.specs.declared.Hearing.the-variants.{Searching, InPhase, Waiting}
 use Rattle.mode_b.specs.declared.Receiver.{Receiver}
-use Rattle.mode_b.specs.Receiver.{freshReceiver, hears, heardDx, heardRx, waited, heardInPhase, runOf, searchedOn, searched, receiving, receiverAfter}
+use Rattle.mode_b.specs.Receiver.{freshReceiver, hears, printsAt, settled, printedOf, heardDx, heardRx, waitsFor, waited, runOf, searchedOn, searched, receiving, receiverAfter}
 use Rattle.signals.specs.Damage.{hurt, NoSignal}
 use Rattle.copy.specs.Run.{Damages, heardFrom, listen, deafBefore, Unrefused, isAnswered}
 
 -- a search run is never over 3, nor is a wait
 abbrev Sound : Hearing → Type 0
 Sound (Searching k s) = k ≤ 3
-Sound (InPhase p) = p .wait ≤ 3
+Sound (InPhase p) = Unit {0}
+Sound (Waiting v) = v .left ≤ 3
 
 search-sound : (run : ℕ) (s : Phasing) → Sound (searchedOn run s .receiver .hearing)
 search-sound run s = go (ltb 3 run) refl
   where
     go : (t : Bool) → ltb 3 run ≡ t → Sound (searchedOn run s .receiver .hearing)
-    go true e = rw e (omega arith)
+    go true e = rw e tt
     go false e = let h = ltb-false 3 run e in rw e h
 
 searched-sound : (k : ℕ) (s : Phasing) (w : ℕ) → Sound (searched k s w .receiver .hearing)
@@ -38,21 +40,32 @@ searched-sound k s w = go (eqb w alpha) (eqb w rq) refl refl
     go false true e f = rw (e, f) (search-sound (runOf k s Phasing.Two) Phasing.Two)
     go false false e f = rw (e, f) (omega arith)
 
-phase-sound : (p : Phase) (w : ℕ) → Sound (heardInPhase p w .receiver .hearing)
-unfolding heardDx heardRx waited
-phase-sound p w = go (eqb (p .wait) 0) (eqb (p .wait) 3) (eqb (p .wait) 2) (p .dx) (eqb w alpha && eqb (p .third) alpha)
+dx-sound : (p : Phase) (w : ℕ) → Sound (heardDx p w .receiver .hearing)
+unfolding heardDx
+dx-sound p w = go (eqb w alpha) (eqb (p .third) alpha) refl refl
   where
-    go : (a b c d e : Bool) → Sound ((if a then (if d then hears (InPhase (record { first = p .second; second = p .third; third = w; dx = false; printing = p .printing; wait = if e then 3 else 0 })) else heardRx p w 0) else if b then heardRx p w 2 else if c then hears (InPhase (record { first = p .first; second = p .second; third = p .third; dx = false; printing = p .printing; wait = 1 })) else hears (Searching 0 Phasing.One)) .receiver .hearing)
-    go true b c true true = omega arith
-    go true b c true false = omega arith
-    go true b c false e = omega arith
-    go false true c d e = omega arith
-    go false false true d e = omega arith
-    go false false false d e = omega arith
+    go : (a b : Bool) → eqb w alpha ≡ a → eqb (p .third) alpha ≡ b → Sound (heardDx p w .receiver .hearing)
+    go true true e f = rw (e, f) (omega arith)
+    go true false e f = rw (e, f) tt
+    go false b e f = rw e tt
+
+wait-sound : (v : Wait) (w : ℕ) → Sound (waited v w .receiver .hearing)
+unfolding waited
+wait-sound v w = go (eqb (v .left) 3) (eqb (v .left) 2)
+  where
+    go : (a b : Bool) → Sound ((if a then printsAt (waitsFor 0 false 2) (printedOf (v .printing) (settled (v .word) w)) else if b then hears (waitsFor 0 false 1) else hears (Searching 0 Phasing.One)) .receiver .hearing)
+    go true b = omega arith
+    go false true = omega arith
+    go false false = omega arith
 
 next-sound : (h : Hearing) → Sound h → (w : ℕ) → (isAnswered (receiving (record { hearing = h }) w) ≡ true) × Sound (receiverAfter (record { hearing = h }) (receiving (record { hearing = h }) w) .hearing)
 next-sound (Searching k s) h w = rw (le-ltb 3 k h) (refl, searched-sound k s w)
-next-sound (InPhase p) h w = rw (le-ltb 3 (p .wait) h) (refl, phase-sound p w)
+next-sound (InPhase p) h w = (refl, go (p .dx))
+  where
+    go : (t : Bool) → Sound ((if t then heardDx p w else heardRx p w) .receiver .hearing)
+    go true = dx-sound p w
+    go false = unfold heardRx in tt
+next-sound (Waiting v) h w = rw (le-ltb 3 (v .left) h) (refl, wait-sound v w)
 
 sound-unrefused : (ws : List ℕ) (r : Receiver) → Sound (r .hearing) → Unrefused r ws
 sound-unrefused [] r s = tt

@@ -12,7 +12,7 @@ use Rattle.mode_b.specs.Receiver.{freshReceiver, receiving, receiverAfter}
 use Rattle.signals.specs.Damage.{Damage, kept, hurt, arrives, NoSignal}
 use Rattle.copy.specs.Run.{Damages, printsOf, heardFrom, listen}
 use Rattle.copy.proofs.WordLaws.{mutilated, Traffic}
-use Rattle.copy.proofs.StepLaws.{seeking, waitingFor, wait-ends}
+use Rattle.copy.proofs.StepLaws.{seeking, twoLeft, wait-ends}
 
 -- After the end no RQ is heard, so the receiver that searches anew stays at the search.
 abbrev NoRq : List ℕ → Type 0
@@ -71,10 +71,10 @@ module _ (d : Damages) (good : (k : ℕ) → NoSignal (d k)) where
       (rx-not-rq Position.idle tt (d k) (good k), (rx-not-rq before b (d (suc k)) (good (suc k)), no-rq ps i (suc (suc k)) last Position.idle l tt))
 
   -- where the position before the two α has been settled: the last two words of the wait, if they are sent, and what comes after them
-  pub quiet-behind : (ps : List Position) → AllIdle ps → (k : ℕ) (q r : Position) → Word q → Word r → (a b c : ℕ) (dx printing : Bool) → listen (waitingFor 2 a b c dx printing) (heardFrom d k (slotsFrom q r ps)) ≡ []
+  pub quiet-behind : (ps : List Position) → AllIdle ps → (k : ℕ) (q r : Position) → Word q → Word r → listen twoLeft (heardFrom d k (slotsFrom q r ps)) ≡ []
   unfolding heardFrom slotsFrom
-  quiet-behind [] i k q r s t a b c dx printing = unfold listen in refl
-  quiet-behind (Position.phasing ∷ ps) i k q r s t a b c dx printing = absurd i
-  quiet-behind (Position.signal w ∷ ps) i k q r s t a b c dx printing = absurd i
-  quiet-behind (Position.idle ∷ ps) i k q r s t a b c dx printing =
-      wait-ends a b c dx printing _ _ _ ∙ silent _ (no-rq ps i (suc (suc k)) r Position.idle t tt) freshReceiver (none Phasing.One)
+  quiet-behind [] i k q r s t = unfold listen in refl
+  quiet-behind (Position.phasing ∷ ps) i k q r s t = absurd i
+  quiet-behind (Position.signal w ∷ ps) i k q r s t = absurd i
+  quiet-behind (Position.idle ∷ ps) i k q r s t =
+      wait-ends _ _ _ ∙ silent _ (no-rq ps i (suc (suc k)) r Position.idle t tt) freshReceiver (none Phasing.One)

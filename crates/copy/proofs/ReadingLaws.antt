@@ -18,7 +18,7 @@ use Rattle.copy.specs.Run.{Damages, one, printsOf, heardFrom, listen, co
 use Rattle.copy.specs.Premise.{Text}
 use Rattle.copy.specs.Reading.{twoOn, fiveOn, damaged, intactα, endsBehind, lost, seen, seenFrom, Printed, nothing, here, behind, InOrder, done, passed, sent, marked}
 use Rattle.copy.proofs.WordLaws.{mutilated, Traffic, traffic}
-use Rattle.copy.proofs.StepLaws.{inPhase, waitingFor, leftAt, seeking, dx-rx, settles-counted, settles-signal, settles-phasing, settles-idle, settles-error, settles-unbegun, Quiet}
+use Rattle.copy.proofs.StepLaws.{inPhase, onFrom, seeking, dx-rx, settles-counted, settles-signal, settles-phasing, settles-idle, settles-error, settles-unbegun, Quiet}
 use Rattle.copy.proofs.QuietLaws.{Word, AllIdle, rx-not-rq, quiet-behind}
 use Rattle.copy.proofs.HearLaws.{late-is-deaf, deaf-no-signal}
 
@@ -127,7 +127,7 @@ module _ (d : Damages) (good : (k : ℕ) → NoSignal (d k)) where
 
   -- The two slots of position p, the first of them slot k: its DX is heard, and the position two before it is settled. x and y are
   -- kept as the DX of the two before.
-  pub position : (first x y : ℕ) (before last p : Position) (ps : List Position) (k : ℕ) (printing t : Bool) → eqb (arrives (d k) (dxOf p)) alpha && eqb y alpha ≡ t → listen (inPhase first x y true printing) (heardOn k before last (p ∷ ps)) ≡ one (printedOf printing (settled x (arrives (d (suc k)) (rxOf before)))) ++ listen (waitingFor (leftAt t) x y (arrives (d k) (dxOf p)) true (printingAfter printing (settled x (arrives (d (suc k)) (rxOf before))))) (heardOn (twoOn k) last p ps)
+  pub position : (first x y : ℕ) (before last p : Position) (ps : List Position) (k : ℕ) (printing t : Bool) → eqb (arrives (d k) (dxOf p)) alpha && eqb y alpha ≡ t → listen (inPhase first x y true printing) (heardOn k before last (p ∷ ps)) ≡ one (printedOf printing (settled x (arrives (d (suc k)) (rxOf before)))) ++ listen (onFrom t x y (arrives (d k) (dxOf p)) (printingAfter printing (settled x (arrives (d (suc k)) (rxOf before))))) (heardOn (twoOn k) last p ps)
   unfolding heardFrom slotsFrom
   position first x y before last p ps k printing t e = dx-rx first x y printing (arrives (d k) (dxOf p)) (arrives (d (suc k)) (rxOf before)) (heardOn (twoOn k) last p ps) t e
 
@@ -151,7 +151,7 @@ module _ (d : Damages) (good : (k : ℕ) → NoSignal (d k)) where
       go true e =
           let i = more-idle p ps (idle-rest last (d j) (p ∷ ps) (and-left (intactα last (d j)) (intactα p (d (twoOn j))) e) o) in
           position first x (arrives (d j) (dxOf last)) before last p ps (twoOn j) printing true (test ∙ e)
-          ∙ rw (e, quiet-behind d good ps i (twoOn (twoOn j)) last p (word last (p ∷ ps) o) (word p ps (rest last (p ∷ ps) o)) x (arrives (d j) (dxOf last)) (arrives (d (twoOn j)) (dxOf p)) true (printingAfter printing (settled x (arrives (d (suc (twoOn j))) (rxOf before)))))
+          ∙ rw (e, quiet-behind d good ps i (twoOn (twoOn j)) last p (word last (p ∷ ps) o) (word p ps (rest last (p ∷ ps) o)))
       go false e = position first x (arrives (d j) (dxOf last)) before last p ps (twoOn j) printing false (test ∙ e) ∙ rw e
 
   -- once printing has begun, or where it begins with the first of these positions

@@ -11,37 +11,38 @@ use Rattle.signals.specs.Meaning.{trafficOf, meaningOf, alpha, rq}
 use Rattle.mode_b.specs.declared.Phasing.{Phasing}
 use Rattle.mode_b.specs.declared.Hearing.the-variants.{Searching, InPhase}
 use Rattle.mode_b.specs.declared.Receiver.{Receiver}
-use Rattle.mode_b.specs.Receiver.{Settled, settled, printedOf, printingAfter, heardDx, heardRx, waited, freshReceiver}
+use Rattle.mode_b.specs.Receiver.{Settled, settled, printedOf, printingAfter, heardDx, heardRx, waitsFor, waited, freshReceiver}
 use Rattle.mode_b.proofs.PhaseLaws.{rq-prints-nothing}
 use Rattle.signals.specs.Damage.{Damage, kept, hurt, arrives, NoSignal}
 use Rattle.copy.specs.Run.{one, listen}
 use Rattle.copy.proofs.WordLaws.{Mutilated, mutilated, Traffic, eqb-self}
 
-abbrev pub waitingFor : ℕ → ℕ → ℕ → ℕ → Bool → Bool → Receiver
-waitingFor n a b c dx printing =
-    record { hearing = InPhase (record { first = a; second = b; third = c; dx = dx; printing = printing; wait = n }) }
-
 abbrev pub inPhase : ℕ → ℕ → ℕ → Bool → Bool → Receiver
-inPhase a b c dx printing = waitingFor 0 a b c dx printing
+inPhase a b c dx printing =
+    record { hearing = InPhase (record { first = a; second = b; third = c; dx = dx; printing = printing }) }
+
+-- behind the first of the three words of the wait
+abbrev pub twoLeft : Receiver
+twoLeft = record { hearing = waitsFor 0 false 2 }
 
 abbrev pub seeking : ℕ → Phasing → Receiver
 seeking run s = record { hearing = Searching run s }
 
 -- A DX slot, and the RX slot behind it, in which the position two before is settled. After two successive α two words are left of the
--- wait.
-abbrev pub leftAt : Bool → ℕ
-leftAt true = 2
-leftAt false = 0
+-- wait, and else it goes on in phase.
+abbrev pub onFrom : Bool → ℕ → ℕ → ℕ → Bool → Receiver
+onFrom true a b c printing = twoLeft
+onFrom false a b c printing = inPhase a b c true printing
 
-pub dx-rx : (a b c : ℕ) (printing : Bool) (v w : ℕ) (ws : List ℕ) (t : Bool) → eqb v alpha && eqb c alpha ≡ t → listen (inPhase a b c true printing) (v ∷ w ∷ ws) ≡ one (printedOf printing (settled b w)) ++ listen (waitingFor (leftAt t) b c v true (printingAfter printing (settled b w))) ws
+pub dx-rx : (a b c : ℕ) (printing : Bool) (v w : ℕ) (ws : List ℕ) (t : Bool) → eqb v alpha && eqb c alpha ≡ t → listen (inPhase a b c true printing) (v ∷ w ∷ ws) ≡ one (printedOf printing (settled b w)) ++ listen (onFrom t b c v (printingAfter printing (settled b w))) ws
 unfolding listen heardDx heardRx waited
 dx-rx a b c printing v w ws true e = rw e
 dx-rx a b c printing v w ws false e = rw e
 
 -- the last two words of the wait
-pub wait-ends : (a b c : ℕ) (dx printing : Bool) (v w : ℕ) (ws : List ℕ) → listen (waitingFor 2 a b c dx printing) (v ∷ w ∷ ws) ≡ listen freshReceiver ws
+pub wait-ends : (v w : ℕ) (ws : List ℕ) → listen twoLeft (v ∷ w ∷ ws) ≡ listen freshReceiver ws
 unfolding listen waited
-wait-ends a b c dx printing v w ws = refl
+wait-ends v w ws = refl
 
 pub hurt-kept : (v : ℕ) → hurt v ≡ kept → ⊥
 hurt-kept v e = let z : _≡_ {A = ℕ} 0 1 = cc in omega arith

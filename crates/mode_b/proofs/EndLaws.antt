@@ -1,71 +1,111 @@
--- The end of reception: 02, T-03.  R-122, R-123, R-124
---     reception-ends   two successive α in DX, and the three words behind them, whatever these are
---     waits-exactly    a wait begins in a DX slot, at α behind α, and nowhere else
---     ends-exactly     a receiver in phase searches after the last word of a wait and after no other, and is then a fresh one
+-- The end of reception: 02, T-03.  R-122, R-123, R-124; and when a receiver is refused.  R-130
+--     reception-ends    two successive α in DX, and the three words behind them, whatever these are
+--     waits-exactly     a receiver in phase begins to wait in a DX slot, at α behind α, and nowhere else
+--     phase-no-search   it goes from phase to no search, and
+--     search-no-wait    from a search to no wait
+--     ends-exactly      a receiver that waits searches after the last word and after no other, and is then a fresh one
+--     refused-exactly   it is refused for a search run over 3, for a remaining wait over 3, and for nothing else
 -- Assumes nothing.
-use mathlib.Core.Path.{_≡_, refl, ap, sym, _∙_}
-use mathlib.Core.Bool.{Bool, true, false, false≢true}
+use mathlib.Core.Path.{_≡_, refl, sym, _∙_}
+use mathlib.Core.Bool.{Bool, true, false, _&&_, false≢true}
 use mathlib.Core.Logic.{_↔_}
-use Prim.Native.Nat.{ℕ, zero, suc, _≤_}
+use Prim.Native.Nat.{ℕ, zero, suc, _≤_, _<_}
 use native.Mathlib.Omega.{arith}
-use lib.Dec.{eqb}
-use borrow.Author.Tests.{eqb-true, eq-eqb}
+use lib.Dec.{eqb, ltb}
+use borrow.Author.Tests.{eqb-true, eq-eqb, ltb-true, lt-ltb}
 use Rattle.laws.specs.Choice.{if_then_else_}
-use Rattle.signals.specs.Meaning.{alpha}
+use Rattle.signals.specs.Meaning.{alpha, rq}
+use Rattle.signals.specs.Numbers.{Answer, answered, refused}
+use Rattle.mode_b.specs.declared.Phasing.{Phasing}
 use Rattle.mode_b.specs.declared.Phase.{Phase}
+use Rattle.mode_b.specs.declared.Wait.{Wait}
 use Rattle.mode_b.specs.declared.Hearing.{Hearing}
-use Rattle.mode_b.specs.declared.Hearing.the-variants.{Searching, InPhase}
+use Rattle.mode_b.specs.declared.Hearing.the-variants.{Searching, InPhase, Waiting}
 use Rattle.mode_b.specs.declared.Receiver.{Receiver}
-use Rattle.mode_b.specs.Receiver.{freshReceiver, heardRx, heardDx, waited, afterWord, Ends}
+use Rattle.mode_b.specs.declared.Heard.{Heard}
+use Rattle.mode_b.specs.Receiver.{freshReceiver, hears, runOf, locked, searchedOn, searched, heardRx, heardDx, waitsFor, waited, receiving, receiverAfter, afterWord, Ends}
 
-abbrev inPhase : Phase → Receiver
-inPhase p = record { hearing = InPhase p }
+abbrev hearing : Hearing → Receiver
+hearing h = record { hearing = h }
 
-pub reception-ends : (p : Phase) → p .wait ≡ 0 → p .dx ≡ true → p .third ≡ alpha → (u v w : ℕ) → Ends p u v w
-unfolding heardDx heardRx waited
-reception-ends p z d a u v w =
+pub reception-ends : (p : Phase) → p .dx ≡ true → p .third ≡ alpha → (u v w : ℕ) → Ends p u v w
+unfolding heardDx waited
+reception-ends p d a u v w =
     record {
-      at-the-end = rw (z, d);
-      waiting = rw (z, d, a);
-      second = rw (z, d, a);
-      third = rw (z, d, a);
-      anew = rw (z, d, a);
+      at-the-end = rw (d, a);
+      waiting = rw (d, a);
+      second = rw (d, a);
+      third = rw (d, a);
+      anew = rw (d, a);
     }
 
--- how many words a receiver still waits for
-abbrev pub waitIn : Hearing → ℕ
-waitIn (Searching k last) = 0
-waitIn (InPhase p) = p .wait
+-- what a receiver is doing, by its number: 0 searching, 1 in phase, 2 waiting
+abbrev pub doing : Hearing → ℕ
+doing (Searching k last) = 0
+doing (InPhase p) = 1
+doing (Waiting v) = 2
 
-pub waits-exactly : (p : Phase) (w : ℕ) → p .wait ≡ 0 → (waitIn (afterWord (inPhase p) w .hearing) ≡ 0 → ⊥) ↔ ((p .dx ≡ true) × (p .third ≡ alpha) × (w ≡ alpha))
+pub waits-exactly : (p : Phase) (w : ℕ) → (doing (afterWord (hearing (InPhase p)) w .hearing) ≡ 2) ↔ ((p .dx ≡ true) × (p .third ≡ alpha) × (w ≡ alpha))
 unfolding heardDx heardRx
-waits-exactly p w z = rw z (go (p .dx) (eqb w alpha) (eqb (p .third) alpha) refl refl refl)
+waits-exactly p w = ((λ e. go (p .dx) (eqb w alpha) (eqb (p .third) alpha) refl refl refl e), (λ e. rw (e .0, e .1, e .2)))
   where
-    go : (d a b : Bool) → p .dx ≡ d → eqb w alpha ≡ a → eqb (p .third) alpha ≡ b → (waitIn ((if p .dx then heardDx p w else heardRx p w 0) .receiver .hearing) ≡ 0 → ⊥) ↔ ((p .dx ≡ true) × (p .third ≡ alpha) × (w ≡ alpha))
-    go true true true d a b = rw (d, a, b) ((λ n. (refl, eqb-true (p .third) alpha b, eqb-true w alpha a)), (λ e n. omega arith))
-    go true true false d a b = rw (d, a, b) ((λ n. absurd (n refl)), (λ e. absurd (false≢true (sym b ∙ eq-eqb (p .third) alpha (e .1)))))
-    go true false b d a c = rw (d, a) ((λ n. absurd (n refl)), (λ e. absurd (false≢true (sym a ∙ eq-eqb w alpha (e .2)))))
-    go false a b d e f = rw d ((λ n. absurd (n refl)), (λ e. absurd (false≢true (e .0))))
+    go : (d a b : Bool) → p .dx ≡ d → eqb w alpha ≡ a → eqb (p .third) alpha ≡ b → doing ((if d then (if a && b then hears (waitsFor (p .second) (p .printing) 3) else hears (InPhase (record { first = p .second; second = p .third; third = w; dx = false; printing = p .printing }))) else heardRx p w) .receiver .hearing) ≡ 2 → (p .dx ≡ true) × (p .third ≡ alpha) × (w ≡ alpha)
+    go true true true d a b e = (d, eqb-true (p .third) alpha b, eqb-true w alpha a)
+    go true true false d a b e = absurd (omega arith)
+    go true false b d a c e = absurd (omega arith)
+    go false a b d f c e = absurd (omega arith)
 
--- in phase, or not
-abbrev searches : Hearing → Bool
-searches (Searching k last) = true
-searches (InPhase p) = false
-
-pub ends-exactly : (p : Phase) (w : ℕ) → p .wait ≤ 3 → ((searches (afterWord (inPhase p) w .hearing) ≡ true) ↔ (p .wait ≡ 1)) × (p .wait ≡ 1 → afterWord (inPhase p) w ≡ freshReceiver)
-unfolding heardDx heardRx waited
-ends-exactly p w h = (go (p .wait) refl h, λ e. rw e)
+pub phase-no-search : (p : Phase) (w : ℕ) → doing (afterWord (hearing (InPhase p)) w .hearing) ≡ 0 → ⊥
+unfolding heardDx heardRx
+phase-no-search p w = go (p .dx) (eqb w alpha && eqb (p .third) alpha)
   where
-    other : (n : ℕ) → p .wait ≡ n → (n ≡ 1 → ⊥) → (b : Bool) → b ≡ false → (b ≡ true) ↔ (p .wait ≡ 1)
-    other n e m b f = ((λ t. absurd (false≢true (sym f ∙ t))), (λ t. absurd (m (sym e ∙ t))))
+    go : (d a : Bool) → doing ((if d then (if a then hears (waitsFor (p .second) (p .printing) 3) else hears (InPhase (record { first = p .second; second = p .third; third = w; dx = false; printing = p .printing }))) else heardRx p w) .receiver .hearing) ≡ 0 → ⊥
+    go true true e = omega arith
+    go true false e = omega arith
+    go false a e = omega arith
 
-    in-turn : (d : Bool) → searches ((if d then heardDx p w else heardRx p w 0) .receiver .hearing) ≡ false
-    in-turn true = refl
-    in-turn false = refl
+pub search-no-wait : (k : ℕ) (last : Phasing) (w : ℕ) → doing (afterWord (hearing (Searching k last)) w .hearing) ≡ 2 → ⊥
+search-no-wait k last w = go (ltb 3 k) (eqb w alpha) (eqb w rq)
+  where
+    on : (s : Phasing) (n : ℕ) (t : Bool) → doing ((if t then hears (locked s) else hears (Searching n s)) .receiver .hearing) ≡ 2 → ⊥
+    on s n true e = omega arith
+    on s n false e = omega arith
 
-    go : (n : ℕ) → p .wait ≡ n → n ≤ 3 → (searches (afterWord (inPhase p) w .hearing) ≡ true) ↔ (p .wait ≡ 1)
-    go zero e h = other 0 e (λ f. omega arith) _ (rw e (in-turn (p .dx)))
-    go (suc zero) e h = ((λ f. e), (λ f. rw e))
-    go (suc (suc zero)) e h = other 2 e (λ f. omega arith) _ (rw e)
-    go (suc (suc (suc zero))) e h = other 3 e (λ f. omega arith) _ (rw e)
-    go (suc (suc (suc (suc n)))) e h = absurd (omega arith)
+    go : (t a b : Bool) → doing (receiverAfter (hearing (Searching k last)) (if t then refused 4 0 else answered (if a then searchedOn (runOf k last Phasing.One) Phasing.One else if b then searchedOn (runOf k last Phasing.Two) Phasing.Two else hears (Searching 0 Phasing.One))) .hearing) ≡ 2 → ⊥
+    go true a b e = omega arith
+    go false true b e = on Phasing.One (runOf k last Phasing.One) (ltb 3 (runOf k last Phasing.One)) e
+    go false false true e = on Phasing.Two (runOf k last Phasing.Two) (ltb 3 (runOf k last Phasing.Two)) e
+    go false false false e = omega arith
+
+pub ends-exactly : (v : Wait) (w : ℕ) → 1 ≤ v .left → v .left ≤ 3 → ((doing (afterWord (hearing (Waiting v)) w .hearing) ≡ 0) ↔ (v .left ≡ 1)) × (v .left ≡ 1 → afterWord (hearing (Waiting v)) w ≡ freshReceiver)
+unfolding waited
+ends-exactly v w l h = (((λ e. go (v .left) refl l h e), (λ e. rw e)), (λ e. rw e))
+  where
+    go : (n : ℕ) → v .left ≡ n → 1 ≤ n → n ≤ 3 → doing (afterWord (hearing (Waiting v)) w .hearing) ≡ 0 → v .left ≡ 1
+    go zero e l h d = absurd (omega arith)
+    go (suc zero) e l h d = e
+    go (suc (suc zero)) e l h d = let z : _≡_ {A = ℕ} 2 0 = rw e at d in absurd (omega arith)
+    go (suc (suc (suc zero))) e l h d = let z : _≡_ {A = ℕ} 2 0 = rw e at d in absurd (omega arith)
+    go (suc (suc (suc (suc n)))) e l h d = absurd (omega arith)
+
+-- refused, by the number
+abbrev pub refusal : Answer Heard → ℕ
+refusal (answered h) = 0
+refusal (refused n v) = n
+
+abbrev pub Over3 : Hearing → Type 0
+Over3 (Searching k last) = 3 < k
+Over3 (InPhase p) = ⊥
+Over3 (Waiting v) = 3 < v .left
+
+over : (k : ℕ) (a : Heard) → (refusal (if ltb 3 k then refused 4 0 else answered a) ≡ 4) ↔ (3 < k)
+over k a = ((λ e. go (ltb 3 k) refl e), (λ h. rw (lt-ltb 3 k h)))
+  where
+    go : (t : Bool) → ltb 3 k ≡ t → refusal (if t then refused 4 0 else answered a) ≡ 4 → 3 < k
+    go true e f = ltb-true 3 k e
+    go false e f = absurd (omega arith)
+
+pub refused-exactly : (h : Hearing) (w : ℕ) → (refusal (receiving (hearing h) w) ≡ 4) ↔ Over3 h
+refused-exactly (Searching k last) w = over k (searched k last w)
+refused-exactly (InPhase p) w = ((λ e. let z : _≡_ {A = ℕ} 0 4 = e in omega arith), (λ e. absurd e))
+refused-exactly (Waiting v) w = over (v .left) (waited v w)

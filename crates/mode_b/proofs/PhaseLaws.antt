@@ -23,7 +23,7 @@ use Rattle.signals.specs.Numbers.{Answer, answered, refused}
 use Rattle.mode_b.specs.declared.Phasing.{Phasing}
 use Rattle.mode_b.specs.declared.Phase.{Phase}
 use Rattle.mode_b.specs.declared.Hearing.{Hearing}
-use Rattle.mode_b.specs.declared.Hearing.the-variants.{Searching, InPhase}
+use Rattle.mode_b.specs.declared.Hearing.the-variants.{Searching, InPhase, Waiting}
 use Rattle.mode_b.specs.declared.Receiver.{Receiver}
 use Rattle.mode_b.specs.declared.Heard.{Heard}
 use Rattle.mode_b.specs.Receiver.{freshReceiver, hears, runOf, locked, searchedOn, Settled, settled, printedOf, printingAfter, heardRx, receiving, afterWord}
@@ -56,6 +56,7 @@ settles-as-phasing = refl
 abbrev isInPhase : Hearing → Bool
 isInPhase (Searching k last) = false
 isInPhase (InPhase p) = true
+isInPhase (Waiting v) = false
 
 abbrev inPhase : Answer Heard → Bool
 inPhase (answered h) = isInPhase (h .receiver .hearing)

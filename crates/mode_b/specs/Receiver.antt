@@ -10,8 +10,9 @@ use Rattle.signals.specs.Meaning.{trafficOf, alpha, rq, errorMark}
 use Rattle.signals.specs.Numbers.{Answer, answered, refused}
 use Rattle.mode_b.specs.declared.Phasing.{Phasing}
 use Rattle.mode_b.specs.declared.Phase.{Phase}
+use Rattle.mode_b.specs.declared.Wait.{Wait}
 use Rattle.mode_b.specs.declared.Hearing.{Hearing}
-use Rattle.mode_b.specs.declared.Hearing.the-variants.{Searching, InPhase}
+use Rattle.mode_b.specs.declared.Hearing.the-variants.{Searching, InPhase, Waiting}
 use Rattle.mode_b.specs.declared.Receiver.{Receiver}
 use Rattle.mode_b.specs.declared.Heard.{Heard}
 use Rattle.mode_b.specs.declared.Received.{Received}
@@ -47,7 +48,7 @@ isOne Phasing.One = true
 isOne Phasing.Two = false
 
 abbrev pub locked : Phasing → Hearing
-locked s = InPhase (record { first = rq; second = rq; third = rq; dx = isOne s; printing = false; wait = 0 })
+locked s = InPhase (record { first = rq; second = rq; third = rq; dx = isOne s; printing = false })
 
 abbrev pub searchedOn : ℕ → Phasing → Heard
 searchedOn run s = if ltb 3 run then hears (locked s) else hears (Searching run s)
@@ -91,45 +92,41 @@ printingAfter printing (signal w) = printing || begins w
 printingAfter printing phasing = printing
 printingAfter printing error = printing
 
--- In an RX slot the oldest waiting position is settled; `left` is what remains of the wait behind it, 0 where there is none.
-unfoldable pub heardRx : Phase → ℕ → ℕ → Heard
-heardRx p w left =
+-- In an RX slot the oldest waiting position is settled.
+unfoldable pub heardRx : Phase → ℕ → Heard
+heardRx p w =
     printsAt
-    (InPhase (record { first = p .first; second = p .second; third = p .third; dx = true; printing = printingAfter (p .printing) (settled (p .first) w); wait = left }))
+    (InPhase (record { first = p .first; second = p .second; third = p .third; dx = true; printing = printingAfter (p .printing) (settled (p .first) w) }))
     (printedOf (p .printing) (settled (p .first) w))
 
--- In a DX slot the word waits. "Two successive intact α in DX", and 02, T-03: "hear three more signals after the second α"  R-122.
--- `third` is the DX before this one, and `second` that of the position before it, which becomes `first`: at the end it is the one that
--- waits.
-abbrev pub waitAfter : ℕ → ℕ → ℕ
-waitAfter before w = if eqb w alpha && eqb before alpha then 3 else 0
+-- Behind the second α: `left` words are still to be heard.
+abbrev pub waitsFor : ℕ → Bool → ℕ → Hearing
+waitsFor word printing left = Waiting (record { word = word; printing = printing; left = left })
 
+-- In a DX slot the word waits. "Two successive intact α in DX", and 02, T-03: "hear three more signals after the second α"  R-122:
+-- `third` is the DX before this one, and `second` that of the position before it, which has still to be settled.
 unfoldable pub heardDx : Phase → ℕ → Heard
 heardDx p w =
-    hears
-    (InPhase (record { first = p .second; second = p .third; third = w; dx = false; printing = p .printing; wait = waitAfter (p .third) w }))
+    if eqb w alpha && eqb (p .third) alpha then hears (waitsFor (p .second) (p .printing) 3)
+    else hears (InPhase (record { first = p .second; second = p .third; third = w; dx = false; printing = p .printing }))
 
--- The three words, by how many are still to be heard, this one with them. The position before the two α waits; its RX is the very next
--- word.
+-- The three words, by how many are still to be heard, this one with them. The RX of the position that waits is the very next word.
 --     3   "settle the waiting position in the ordinary way"               R-123
 --     2   a word that prints nothing, whatever it is                      R-122
 --     1   likewise; behind it "the receiver searches anew"                R-124
--- `dx` goes on saying which slot comes next, and the words stay; neither is looked at any more.
-unfoldable pub waited : Phase → ℕ → Heard
-waited p w =
-    if eqb (p .wait) 3 then heardRx p w 2
-    else if eqb (p .wait) 2 then
-    hears (InPhase (record { first = p .first; second = p .second; third = p .third; dx = false; printing = p .printing; wait = 1 }))
+-- A receiver that waits for 0 words, to which no receiver comes, is taken as one whose wait ends with this word.
+unfoldable pub waited : Wait → ℕ → Heard
+waited v w =
+    if eqb (v .left) 3 then printsAt (waitsFor 0 false 2) (printedOf (v .printing) (settled (v .word) w))
+    else if eqb (v .left) 2 then hears (waitsFor 0 false 1)
     else hears (Searching 0 Phasing.One)
 
-abbrev pub heardInPhase : Phase → ℕ → Heard
-heardInPhase p w = if eqb (p .wait) 0 then (if p .dx then heardDx p w else heardRx p w 0) else waited p w
-
 -- 01, Numbers returned, for the receiver: 4, "receiver with a search run over 3", "0"; 02, T-03: "4 also for a remaining wait over
--- three"  R-130, R-134. A receiver has the one or the other.
+-- three"  R-130, R-134. A receiver has the one or the other, or neither.
 abbrev pub receivingBy : Hearing → ℕ → Answer Heard
 receivingBy (Searching k last) w = if ltb 3 k then refused 4 0 else answered (searched k last w)
-receivingBy (InPhase p) w = if ltb 3 (p .wait) then refused 4 0 else answered (heardInPhase p w)
+receivingBy (InPhase p) w = answered (if p .dx then heardDx p w else heardRx p w)
+receivingBy (Waiting v) w = if ltb 3 (v .left) then refused 4 0 else answered (waited v w)
 
 abbrev pub receiving : Receiver → ℕ → Answer Heard
 receiving r w = receivingBy (r .hearing) w
@@ -152,8 +149,8 @@ receiverAfter r (refused n v) = r
 abbrev pub Receives : Receiver → ℕ → Received → Type 0
 Receives r w a = (saidReceived a ≡ receiving r w) × (handedBack a ≡ receiverAfter r (receiving r w))
 
--- The end of reception once more, sentence by sentence, of a receiver in phase that does not wait, has heard α in the last DX slot and
--- hears α in this one: whatever the three words behind it are. That it holds is `reception-ends` (proofs/EndLaws.antt).
+-- The end of reception once more, sentence by sentence, of a receiver in phase that has heard α in the last DX slot and hears α in
+-- this one: whatever the three words behind it are. That it holds is `reception-ends` (proofs/EndLaws.antt).
 --     at-the-end   nothing is printed at the second α
 --     waiting      "hear three more signals after the second α and settle the waiting position in the ordinary way": by the word
 --                  that was kept as its DX (`second`) and the first of the three as its RX                          R-122, R-123

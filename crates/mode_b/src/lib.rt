@@ -26,23 +26,31 @@ pub enum Phasing {
     Two,
 }
 
-// A receiver in phase: the DX words of three positions, the oldest first, whether the next slot is a DX slot, whether printing has
-// begun, and the remaining wait. The words are as they were heard, intact or not; as it comes into phase all three are RQ. The wait is
-// 0 until two successive α are heard in DX; from then on it is the number of words still to be heard, 3 to 1, and says what the next
-// one is, whatever `dx` says.
+// A receiver in phase: the DX words of three positions, the oldest first, whether the next slot is a DX slot, and whether printing has
+// begun. The words are as they were heard, intact or not; as it comes into phase all three are RQ.
 pub struct Phase {
     pub first: u8,
     pub second: u8,
     pub third: u8,
     pub dx: bool,
     pub printing: bool,
-    pub wait: u8,
 }
 
-// What a receiver is doing. The search run, and the last signal of it, exist only while it searches; the wait only in phase.
+// A receiver behind two successive α in DX (02, T-03): the DX word of the one position that still waits for its RX, whether printing
+// has begun, and how many words are still to be heard, 3 to 1. Behind the first of the three nothing waits: the word is 0, and nothing
+// is printed any more.
+pub struct Wait {
+    pub word: u8,
+    pub printing: bool,
+    pub left: u8,
+}
+
+// What a receiver is doing. The search run, and the last signal of it, exist only while it searches; the remaining wait only while it
+// waits.
 pub enum Hearing {
     Searching(u8, Phasing),
     InPhase(Phase),
+    Waiting(Wait),
 }
 
 // A receiver of mode B.

@@ -8,12 +8,15 @@ use Rattle.signals.specs.Meaning.{alpha, beta, rq}
 use Rattle.mode_b.specs.Sender.{carriageReturn, lineFeed}
 use Rattle.mode_b.specs.Receiver.{Settled, signal, phasing, error, settled}
 
--- the tests of settling
+-- the tests of settling and of the end
 abbrev pub alikeOf : ℕ → ℕ → Bool
 alikeOf dx rx = intactOf dx && (intactOf rx && eqb dx rx)
 
 abbrev pub phasingOf : ℕ → ℕ → Bool
 phasingOf dx rx = eqb dx rq && eqb rx alpha
+
+abbrev pub twoAlpha : ℕ → ℕ → Bool
+twoAlpha w before = eqb w alpha && eqb before alpha
 
 abbrev pub markOf : Settled → ℕ
 markOf (signal w) = w

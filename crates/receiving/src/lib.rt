@@ -1,14 +1,15 @@
 // The receiver of mode B, one word a step (01, Mode B; 001, 4.3, 4.4 and 4.6).
 ghost use mathlib.Core.Path.{_≡_};
 ghost use Prim.Native.Nat.{_≤_};
-ghost use Rattle.mode_b.specs.Receiver.{hears, printsAt, sameSignal, runOf, locked, searchedOn, searched, heardRx, waitAfter, heardDx, waited, heardInPhase, Receives};
-ghost use Rattle.receiving.specs.Marks.{alikeOf, phasingOf, settledMark, printedMark, printingMark};
+ghost use Rattle.mode_b.specs.Receiver.{hears, printsAt, sameSignal, runOf, locked, searchedOn, searched, heardRx, waitsFor, heardDx, waited, Receives};
+ghost use Rattle.receiving.specs.Marks.{alikeOf, phasingOf, twoAlpha, settledMark, printedMark, printingMark};
 use mode_b::Heard;
 use mode_b::Hearing;
 use mode_b::Phase;
 use mode_b::Phasing;
 use mode_b::Received;
 use mode_b::Receiver;
+use mode_b::Wait;
 
 // The error mark in a list of signals.
 const ERROR_MARK: u8 = 255;
@@ -71,7 +72,6 @@ fn locked(now: Phasing) -> Hearing
             third: signals::RQ,
             dx: true,
             printing: false,
-            wait: 0,
         }),
         Phasing::Two => Hearing::InPhase(Phase {
             first: signals::RQ,
@@ -79,7 +79,6 @@ fn locked(now: Phasing) -> Hearing
             third: signals::RQ,
             dx: false,
             printing: false,
-            wait: 0,
         }),
     }
 }
@@ -185,9 +184,9 @@ fn printed_of(printing: bool, settled: u8) -> u8
     settled
 }
 
-// A word heard in an RX slot: the oldest waiting position is settled, and of the wait `left` remains.
-fn heard_rx(p: Phase, word: u8, left: u8) -> Heard
-    ensures { λ r. ⌜ r ≡ heardRx p word left ⌝ }
+// A word heard in an RX slot: the oldest waiting position is settled.
+fn heard_rx(p: Phase, word: u8) -> Heard
+    ensures { λ r. ⌜ r ≡ heardRx p word ⌝ }
 {
     let mark = settled(p.first, word);
     let after = Phase {
@@ -196,74 +195,63 @@ fn heard_rx(p: Phase, word: u8, left: u8) -> Heard
         third: p.third,
         dx: true,
         printing: printing_after(p.printing, mark),
-        wait: left,
     };
     prints_at(Hearing::InPhase(after), printed_of(p.printing, mark))
 }
 
-// How many words are still to be heard behind a DX word and the one before it: three behind two successive α.
-fn wait_after(before: u8, word: u8) -> u8
-    ensures { λ r. ⌜ r ≡ waitAfter before word ⌝ }
+// Two successive α.
+fn two_alpha(word: u8, before: u8) -> bool
+    ensures { λ r. ⌜ r ≡ twoAlpha word before ⌝ }
 {
     if word != signals::ALPHA {
-        return 0;
+        return false;
     }
-    if before != signals::ALPHA {
-        return 0;
-    }
-    3
+    before == signals::ALPHA
 }
 
-// A word heard in a DX slot: it waits for its RX; as the second α in succession it begins the wait that ends reception.
+// Behind two successive α in DX: `left` words are still to be heard, and one position waits for the first of them, or none.
+fn waits_for(word: u8, printing: bool, left: u8) -> Hearing
+    ensures { λ r. ⌜ r ≡ waitsFor word printing left ⌝ }
+{
+    Hearing::Waiting(Wait {
+        word: word,
+        printing: printing,
+        left: left,
+    })
+}
+
+// A word heard in a DX slot: it waits for its RX; the second α in succession begins the wait that ends reception.
 fn heard_dx(p: Phase, word: u8) -> Heard
     ensures { λ r. ⌜ r ≡ heardDx p word ⌝ }
 {
+    let third = p.third;
+    if two_alpha(word, third) {
+        return hears(waits_for(p.second, p.printing, 3));
+    }
     let after = Phase {
         first: p.second,
-        second: p.third,
+        second: third,
         third: word,
         dx: false,
         printing: p.printing,
-        wait: wait_after(p.third, word),
     };
     hears(Hearing::InPhase(after))
 }
 
 // One of the three words behind the second α. The first is the RX of the position that waits; the others print nothing, and behind the
 // last it searches.
-fn waited(p: Phase, word: u8) -> Heard
-    ensures { λ r. ⌜ r ≡ waited p word ⌝ }
+fn waited(v: Wait, word: u8) -> Heard
+    ensures { λ r. ⌜ r ≡ waited v word ⌝ }
 {
-    let wait = p.wait;
-    if wait == 3 {
-        return heard_rx(p, word, 2);
+    let left = v.left;
+    if left == 3 {
+        let mark = settled(v.word, word);
+        return prints_at(waits_for(0, false, 2), printed_of(v.printing, mark));
     }
-    if wait == 2 {
-        let after = Phase {
-            first: p.first,
-            second: p.second,
-            third: p.third,
-            dx: false,
-            printing: p.printing,
-            wait: 1,
-        };
-        return hears(Hearing::InPhase(after));
+    if left == 2 {
+        return hears(waits_for(0, false, 1));
     }
     hears(Hearing::Searching(0, Phasing::One))
-}
-
-// A word heard in phase: within the wait the wait says what it is, else the slot.
-fn heard_in_phase(p: Phase, word: u8) -> Heard
-    ensures { λ r. ⌜ r ≡ heardInPhase p word ⌝ }
-{
-    let wait = p.wait;
-    if wait != 0 {
-        return waited(p, word);
-    }
-    if p.dx {
-        return heard_dx(p, word);
-    }
-    heard_rx(p, word, 0)
 }
 
 // One step of a receiver of mode B (01, Mode B; 02, T-03): it hears a word and answers the receiver and at most one printed signal, 255
@@ -280,11 +268,17 @@ pub fn receive(receiver: Receiver, word: u8) -> Received
             Received::Done(searched(so_far, last, word))
         }
         Hearing::InPhase(p) => {
-            let wait = p.wait;
-            if 3 < wait {
+            if p.dx {
+                return Received::Done(heard_dx(p, word));
+            }
+            Received::Done(heard_rx(p, word))
+        }
+        Hearing::Waiting(v) => {
+            let left = v.left;
+            if 3 < left {
                 return Received::BadReceiver(receiver);
             }
-            Received::Done(heard_in_phase(p, word))
+            Received::Done(waited(v, word))
         }
     }
 }
