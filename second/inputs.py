@@ -724,20 +724,18 @@ WAIT_KINDS = (last_position_ends, alphas_damaged, cut_ends, words_in_wait,
 
 
 def wait_cases(draw):
-    """Inputs of these, and how many words they have."""
+    """Inputs of these."""
     out = []
-    total = 0
     for kind in WAIT_KINDS:
         words = []
         for heard in kind(draw):
             words += heard
-            total += len(heard)
             if len(words) > WAIT_WORDS_IN_A_CASE:
                 out.append(quickly(kind.__name__.replace("_", " "), plain(words)))
                 words = []
         if words:
             out.append(quickly(kind.__name__.replace("_", " "), plain(words)))
-    return out, total
+    return out
 
 
 def receive_cases(draw):
@@ -767,8 +765,8 @@ def receive_cases(draw):
     for behind in range(SECOND_ALPHA + 1, WAITED):
         out.append(quickly("ends within the wait, %d words" % behind,
                            plain(text_of_one[:behind])))
-    more, total = wait_cases(draw)
-    out.extend(more)
+    out.extend(wait_cases(draw))
+    total = 0
     while total < LEAST_RECEIVE_WORDS:
         for kind in RECEIVE_KINDS:
             words = heard_in_mode_b(draw, kind)
