@@ -129,13 +129,13 @@ step_answer plain_step(struct station *station, uint32_t burst, uint64_t offer);
 enum { PHASE_SEARCHING, PHASE_DX, PHASE_RX, PHASE_WAITING };
 
 struct receiver {
-    uint32_t waiting;   /* in phase: the last DX words as they were heard, the
+    uint32_t waiting;   /* in phase, waiting: the last DX words as heard, the
                            latest in the low byte */
     uint8_t phase;      /* searching, what the next slot is, or waiting: behind two
                            successive alpha in DX */
     uint8_t run;        /* searching: how many in a row alternate, 0 to 3 */
     uint8_t last;       /* searching, run over 0: the last of them, alpha or RQ */
-    uint8_t printing;   /* in phase: 255 once printing has begun, before that 0 */
+    uint8_t printing;   /* in phase, waiting: 255 once printing has begun, else 0 */
     uint8_t wait;       /* waiting: how many words are still to be heard, 3 to 1 */
 };
 

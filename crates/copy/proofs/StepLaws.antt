@@ -1,4 +1,5 @@
--- One slot: what a receiver prints in it, and what it is after it. Assumes nothing.
+-- A DX slot and the RX slot behind it: what a receiver prints in them, and what it is after them; the last two words of the wait; and
+-- what a position is settled to. Assumes nothing.
 use mathlib.Core.Path.{_≡_, refl, ap}
 use mathlib.Core.Bool.{Bool, true, false, _&&_}
 use mathlib.Core.Logic.{_⊎_, inl, inr}

@@ -1,18 +1,19 @@
 -- The end of reception: 02, T-03.  R-122, R-123, R-124; and when a receiver is refused.  R-130
---     reception-ends    two successive α in DX, and the three words behind them, whatever these are
---     waits-exactly     a receiver in phase begins to wait in a DX slot, at α behind α, and nowhere else
---     phase-no-search   it goes from phase to no search, and
---     search-no-wait    from a search to no wait
---     ends-exactly      a receiver that waits searches after the last word and after no other, and is then a fresh one
---     refused-exactly   it is refused for a search run over 3, for a remaining wait over 3, and for nothing else
+--     reception-ends       two successive α in DX, and the three words behind them, whatever these are
+--     waits-exactly        a receiver in phase begins to wait in a DX slot, at α behind α, and nowhere else
+--     phase-no-search      it goes from phase to no search, and
+--     search-no-wait       from a search to no wait
+--     ends-exactly         a receiver that waits searches after the last word and after no other, and is then a fresh one
+--     prints-first-alone   within the wait nothing is printed behind the first of the three words
+--     refused-exactly      4, and 0 beside it, for a search run over 3 and for a remaining wait over 3; no refusal else
 -- Assumes nothing.
-use mathlib.Core.Path.{_≡_, refl, sym, _∙_}
-use mathlib.Core.Bool.{Bool, true, false, _&&_, false≢true}
+use mathlib.Core.Path.{_≡_, refl, ap}
+use mathlib.Core.Bool.{Bool, true, false, _&&_}
 use mathlib.Core.Logic.{_↔_}
 use Prim.Native.Nat.{ℕ, zero, suc, _≤_, _<_}
 use native.Mathlib.Omega.{arith}
 use lib.Dec.{eqb, ltb}
-use borrow.Author.Tests.{eqb-true, eq-eqb, ltb-true, lt-ltb}
+use borrow.Author.Tests.{eqb-true, ltb-true, lt-ltb}
 use Rattle.laws.specs.Choice.{if_then_else_}
 use Rattle.signals.specs.Meaning.{alpha, rq}
 use Rattle.signals.specs.Numbers.{Answer, answered, refused}
@@ -23,7 +24,7 @@ use Rattle.mode_b.specs.declared.Hearing.{Hearing}
 use Rattle.mode_b.specs.declared.Hearing.the-variants.{Searching, InPhase, Waiting}
 use Rattle.mode_b.specs.declared.Receiver.{Receiver}
 use Rattle.mode_b.specs.declared.Heard.{Heard}
-use Rattle.mode_b.specs.Receiver.{freshReceiver, hears, runOf, locked, searchedOn, searched, heardRx, heardDx, waitsFor, waited, receiving, receiverAfter, afterWord, Ends}
+use Rattle.mode_b.specs.Receiver.{freshReceiver, hears, runOf, locked, searchedOn, searched, heardRx, heardDx, waitsFor, waited, receiving, receiverAfter, printedBy, afterWord, Ends}
 
 abbrev hearing : Hearing → Receiver
 hearing h = record { hearing = h }
@@ -77,18 +78,33 @@ search-no-wait k last w = go (ltb 3 k) (eqb w alpha) (eqb w rq)
     go false false true e = on Phasing.Two (runOf k last Phasing.Two) (ltb 3 (runOf k last Phasing.Two)) e
     go false false false e = omega arith
 
-pub ends-exactly : (v : Wait) (w : ℕ) → 1 ≤ v .left → v .left ≤ 3 → ((doing (afterWord (hearing (Waiting v)) w .hearing) ≡ 0) ↔ (v .left ≡ 1)) × (v .left ≡ 1 → afterWord (hearing (Waiting v)) w ≡ freshReceiver)
+pub ends-exactly : (v : Wait) (w : ℕ) → v .left ≤ 3 → ((doing (afterWord (hearing (Waiting v)) w .hearing) ≡ 0) ↔ (v .left ≤ 1)) × (v .left ≤ 1 → afterWord (hearing (Waiting v)) w ≡ freshReceiver)
 unfolding waited
-ends-exactly v w l h = (((λ e. go (v .left) refl l h e), (λ e. rw e)), (λ e. rw e))
+ends-exactly v w h = (((λ e. go (v .left) refl h e), (λ l. ap (λ (r : Receiver). doing (r .hearing)) (fresh (v .left) refl l))), (λ l. fresh (v .left) refl l))
   where
-    go : (n : ℕ) → v .left ≡ n → 1 ≤ n → n ≤ 3 → doing (afterWord (hearing (Waiting v)) w .hearing) ≡ 0 → v .left ≡ 1
-    go zero e l h d = absurd (omega arith)
-    go (suc zero) e l h d = e
-    go (suc (suc zero)) e l h d = let z : _≡_ {A = ℕ} 2 0 = rw e at d in absurd (omega arith)
-    go (suc (suc (suc zero))) e l h d = let z : _≡_ {A = ℕ} 2 0 = rw e at d in absurd (omega arith)
-    go (suc (suc (suc (suc n)))) e l h d = absurd (omega arith)
+    fresh : (n : ℕ) → v .left ≡ n → n ≤ 1 → afterWord (hearing (Waiting v)) w ≡ freshReceiver
+    fresh zero e l = rw e
+    fresh (suc zero) e l = rw e
+    fresh (suc (suc n)) e l = absurd (omega arith)
 
--- refused, by the number
+    go : (n : ℕ) → v .left ≡ n → n ≤ 3 → doing (afterWord (hearing (Waiting v)) w .hearing) ≡ 0 → v .left ≤ 1
+    go zero e h d = omega arith
+    go (suc zero) e h d = omega arith
+    go (suc (suc zero)) e h d = let z : _≡_ {A = ℕ} 2 0 = rw e at d in absurd (omega arith)
+    go (suc (suc (suc zero))) e h d = let z : _≡_ {A = ℕ} 2 0 = rw e at d in absurd (omega arith)
+    go (suc (suc (suc (suc n)))) e h d = absurd (omega arith)
+
+pub prints-first-alone : (v : Wait) (w : ℕ) → v .left ≤ 2 → printedBy (hearing (Waiting v)) w ≡ 0
+unfolding waited
+prints-first-alone v w h = go (v .left) refl h
+  where
+    go : (n : ℕ) → v .left ≡ n → n ≤ 2 → printedBy (hearing (Waiting v)) w ≡ 0
+    go zero e l = rw e
+    go (suc zero) e l = rw e
+    go (suc (suc zero)) e l = rw e
+    go (suc (suc (suc n))) e l = absurd (omega arith)
+
+-- the number of a refusal, 0 where there is none
 abbrev pub refusal : Answer Heard → ℕ
 refusal (answered h) = 0
 refusal (refused n v) = n
@@ -98,14 +114,14 @@ Over3 (Searching k last) = 3 < k
 Over3 (InPhase p) = ⊥
 Over3 (Waiting v) = 3 < v .left
 
-over : (k : ℕ) (a : Heard) → (refusal (if ltb 3 k then refused 4 0 else answered a) ≡ 4) ↔ (3 < k)
-over k a = ((λ e. go (ltb 3 k) refl e), (λ h. rw (lt-ltb 3 k h)))
+over : (k : ℕ) (a : Heard) → (3 < k → _≡_ {A = Answer Heard} (if ltb 3 k then refused 4 0 else answered a) (refused 4 0)) × ((3 < k → ⊥) → refusal (if ltb 3 k then refused 4 0 else answered a) ≡ 0)
+over k a = ((λ h. rw (lt-ltb 3 k h)), (λ n. go (ltb 3 k) refl n))
   where
-    go : (t : Bool) → ltb 3 k ≡ t → refusal (if t then refused 4 0 else answered a) ≡ 4 → 3 < k
-    go true e f = ltb-true 3 k e
-    go false e f = absurd (omega arith)
+    go : (t : Bool) → ltb 3 k ≡ t → (3 < k → ⊥) → refusal (if t then refused 4 0 else answered a) ≡ 0
+    go true e n = absurd (n (ltb-true 3 k e))
+    go false e n = refl
 
-pub refused-exactly : (h : Hearing) (w : ℕ) → (refusal (receiving (hearing h) w) ≡ 4) ↔ Over3 h
+pub refused-exactly : (h : Hearing) (w : ℕ) → (Over3 h → receiving (hearing h) w ≡ refused 4 0) × ((Over3 h → ⊥) → refusal (receiving (hearing h) w) ≡ 0)
 refused-exactly (Searching k last) w = over k (searched k last w)
-refused-exactly (InPhase p) w = ((λ e. let z : _≡_ {A = ℕ} 0 4 = e in omega arith), (λ e. absurd e))
+refused-exactly (InPhase p) w = ((λ e. absurd e), (λ e. refl))
 refused-exactly (Waiting v) w = over (v .left) (waited v w)

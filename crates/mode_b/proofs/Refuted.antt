@@ -1,4 +1,4 @@
--- A wrong sender and wrong receivers that have another shape than the right ones, so that no edit of one operand makes them. Of each,
+-- A wrong sender and wrong receivers, most of another shape than the right ones, so that no edit of one operand makes them. Of each,
 -- a call at which what the promise says is not what it would do: computed, not argued.
 --     no-refusing-sender     one that refuses every slot
 --     no-order-7-6-3         one that tells a slot past the last before a word that may not stand in the text
@@ -60,8 +60,8 @@ no-order-7-6-3 n p = let z : _≡_ {A = ℕ} 6 3 = ap numberIn p in omega arith
 abbrev inPhaseWith : Bool → ℕ → ℕ → Bool → Receiver
 inPhaseWith dx second third printing = record { hearing = InPhase (record { first = 86; second = second; third = third; dx = dx; printing = printing }) }
 
-abbrev behind : ℕ → ℕ → Receiver
-behind word left = record { hearing = waitsFor word true left }
+abbrev waitingWith : ℕ → ℕ → Receiver
+waitingWith word left = record { hearing = waitsFor word true left }
 
 pub no-printing-at-once : (h : Heard) → h .printed ≡ 86 → Receives (inPhaseWith false 86 86 false) 86 (Received.Done h) → ⊥
 unfolding heardRx settled intactOf onesOf
@@ -73,11 +73,11 @@ unfolding heardDx
 no-dx-alone h e p = let z : _≡_ {A = ℕ} 86 0 = sym e ∙ ap printedIn (p .0) in omega arith
 
 -- 0 was heard as the DX of the position that waits, and E comes as its RX; and the other way round
-pub no-star-for-the-last : (h : Heard) → h .printed ≡ 255 → Receives (behind 0 3) 86 (Received.Done h) → ⊥
+pub no-star-for-the-last : (h : Heard) → h .printed ≡ 255 → Receives (waitingWith 0 3) 86 (Received.Done h) → ⊥
 unfolding waited settled intactOf onesOf trafficOf meaningOf
 no-star-for-the-last h e p = let z : _≡_ {A = ℕ} 255 86 = sym e ∙ ap printedIn (p .0) in omega arith
 
-pub no-rx-alone : (h : Heard) → h .printed ≡ 255 → Receives (behind 86 3) 0 (Received.Done h) → ⊥
+pub no-rx-alone : (h : Heard) → h .printed ≡ 255 → Receives (waitingWith 86 3) 0 (Received.Done h) → ⊥
 unfolding waited settled intactOf onesOf trafficOf meaningOf
 no-rx-alone h e p = let z : _≡_ {A = ℕ} 255 86 = sym e ∙ ap printedIn (p .0) in omega arith
 
@@ -86,15 +86,15 @@ abbrev hearingIn : Answer Heard → Hearing
 hearingIn (answered h) = h .receiver .hearing
 hearingIn (refused n v) = freshReceiver .hearing
 
-pub no-wait-of-two : (h : Heard) → h .receiver ≡ freshReceiver → Receives (behind 0 2) 71 (Received.Done h) → ⊥
+pub no-wait-of-two : (h : Heard) → h .receiver ≡ freshReceiver → Receives (waitingWith 0 2) 71 (Received.Done h) → ⊥
 unfolding waited
 no-wait-of-two h e p = let z : _≡_ {A = ℕ} 0 2 = sym (ap (λ (r : Receiver). doing (r .hearing)) e) ∙ ap (λ (a : Answer Heard). doing (hearingIn a)) (p .0) in omega arith
 
-pub no-wait-of-four : (h : Heard) (v : Wait) → h .receiver .hearing ≡ Waiting v → Receives (behind 0 1) 71 (Received.Done h) → ⊥
+pub no-wait-of-four : (h : Heard) (v : Wait) → h .receiver .hearing ≡ Waiting v → Receives (waitingWith 0 1) 71 (Received.Done h) → ⊥
 unfolding waited
 no-wait-of-four h v e p = let z : _≡_ {A = ℕ} 2 0 = sym (ap doing e) ∙ ap (λ (a : Answer Heard). doing (hearingIn a)) (p .0) in omega arith
 
-pub no-third-α-anew : (h : Heard) (v : Wait) → h .receiver .hearing ≡ Waiting v → v .left ≡ 3 → Receives (behind 0 2) 15 (Received.Done h) → ⊥
+pub no-third-α-anew : (h : Heard) (v : Wait) → h .receiver .hearing ≡ Waiting v → v .left ≡ 3 → Receives (waitingWith 0 2) 15 (Received.Done h) → ⊥
 unfolding waited
 no-third-α-anew h v e f p = let g : Waiting v ≡ waitsFor 0 false 1 = sym e ∙ ap hearingIn (p .0) in let z : _≡_ {A = ℕ} 3 1 = sym f ∙ ap leftIn g in omega arith
   where
@@ -103,22 +103,22 @@ no-third-α-anew h v e f p = let g : Waiting v ≡ waitsFor 0 false 1 = sym e �
     leftIn (InPhase p) = 0
     leftIn (Waiting v) = v .left
 
-pub no-second-printed : (h : Heard) → h .printed ≡ 86 → Receives (behind 0 2) 86 (Received.Done h) → ⊥
+pub no-second-printed : (h : Heard) → h .printed ≡ 86 → Receives (waitingWith 0 2) 86 (Received.Done h) → ⊥
 unfolding waited
 no-second-printed h e p = let z : _≡_ {A = ℕ} 86 0 = sym e ∙ ap printedIn (p .0) in omega arith
 
-pub no-third-printed : (h : Heard) → h .printed ≡ 86 → Receives (behind 0 1) 86 (Received.Done h) → ⊥
+pub no-third-printed : (h : Heard) → h .printed ≡ 86 → Receives (waitingWith 0 1) 86 (Received.Done h) → ⊥
 unfolding waited
 no-third-printed h e p = let z : _≡_ {A = ℕ} 86 0 = sym e ∙ ap printedIn (p .0) in omega arith
 
-pub no-wait-searched : (h : Heard) (run : ℕ) (last : Phasing) → h .receiver .hearing ≡ Searching (suc run) last → Receives (behind 0 1) 15 (Received.Done h) → ⊥
+pub no-wait-searched : (h : Heard) (run : ℕ) (last : Phasing) → h .receiver .hearing ≡ Searching (suc run) last → Receives (waitingWith 0 1) 15 (Received.Done h) → ⊥
 unfolding waited
 no-wait-searched h run last e p = let f : Searching (suc run) last ≡ Searching 0 Phasing.One = sym e ∙ ap hearingIn (p .0) in let z : _≡_ {A = ℕ} 0 1 = cc in omega arith
 
-pub no-wait-of-4-taken : (h : Heard) (w : ℕ) → Receives (behind 86 4) w (Received.Done h) → ⊥
+pub no-wait-of-4-taken : (h : Heard) (w : ℕ) → Receives (waitingWith 86 4) w (Received.Done h) → ⊥
 no-wait-of-4-taken h w p = let z : _≡_ {A = ℕ} 0 4 = ap refusal (p .0) in omega arith
 
-pub no-wait-of-3-refused : (r : Receiver) (w : ℕ) → Receives (behind 86 3) w (Received.BadReceiver r) → ⊥
+pub no-wait-of-3-refused : (r : Receiver) (w : ℕ) → Receives (waitingWith 86 3) w (Received.BadReceiver r) → ⊥
 no-wait-of-3-refused r w p = let z : _≡_ {A = ℕ} 4 0 = ap refusal (p .0) in omega arith
 
 pub no-fresh-receiver-with-a-run : (r : Receiver) (run : ℕ) (last : Phasing) → r .hearing ≡ Searching (suc run) last → r ≡ freshReceiver → ⊥

@@ -99,7 +99,7 @@ heardRx p w =
     (InPhase (record { first = p .first; second = p .second; third = p .third; dx = true; printing = printingAfter (p .printing) (settled (p .first) w) }))
     (printedOf (p .printing) (settled (p .first) w))
 
--- Behind the second α: `left` words are still to be heard.
+-- Behind the second α: the DX word of the position that waits, 0 where none does any more, and how many words are still to be heard.
 abbrev pub waitsFor : ℕ → Bool → ℕ → Hearing
 waitsFor word printing left = Waiting (record { word = word; printing = printing; left = left })
 
