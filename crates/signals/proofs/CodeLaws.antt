@@ -1,15 +1,17 @@
 -- What holds of every byte, and of every signal: each by one test that antt computes over all of them. Assumes nothing.
-use mathlib.Core.Path.{_≡_, refl, ap}
+use mathlib.Core.Path.{_≡_, refl, ap, sym, _∙_}
 use mathlib.Core.Bool.{Bool, true, false, not, _&&_, Bool·beq}
 use Prim.Native.Nat.{ℕ, zero, suc, _+_, _≤_, _<_}
-use lib.Dec.{T, eqb, leb, ltb, leb→le}
-use borrow.Author.Tests.{ltb-true}
+use native.Mathlib.Omega.{arith}
+use lib.Dec.{T, eqb, leb, ltb, leb→le, eqb→eq}
+use borrow.Author.Tests.{ltb-true, leb-true, leb-false}
 use lib.Count.{ones}
 use Rattle.laws.specs.Choice.{if_then_else_}
 use Rattle.laws.proofs.Below.{at-below, agree-below, both-left, both-right}
 use Rattle.laws.proofs.Table.{same-table}
 use Rattle.signals.specs.Units.{onesOf, intactOf}
 use Rattle.signals.specs.Meaning.{meaningOf, trafficOf, wordNo}
+use Rattle.signals.specs.Rows.{rowOf}
 
 beq→eq : (a b : Bool) → T (Bool·beq a b) → a ≡ b
 beq→eq true true t = refl
@@ -38,6 +40,13 @@ module _ (w : ℕ) (byte : w < 256) where
   unfolding right
   meaning-le = leb→le _ _ (both-left (leb (meaningOf w) 35) _ (both-right (Bool·beq (intactOf w) (leb 1 (meaningOf w))) _ passes))
 
+  -- an intact word is that of the signal with its number
+  pub word-of-meaning : intactOf w ≡ true → wordNo (meaningOf w) ≡ w
+  unfolding right
+  word-of-meaning e =
+      let t = both-right (leb (meaningOf w) 35) _ (both-right (Bool·beq (intactOf w) (leb 1 (meaningOf w))) _ passes) in
+      eqb→eq _ _ (rw e at t)
+
   -- a traffic signal is an intact word that is no service signal
   pub traffic-is : trafficOf w ≡ (((intactOf w && not (eqb w 15)) && not (eqb w 51)) && not (eqb w 102))
   unfolding trafficOf intactOf onesOf meaningOf
@@ -58,6 +67,31 @@ intact-count = refl
 pub number-means : (n : ℕ) → n < 35 → meaningOf (wordNo (suc n)) ≡ suc n
 unfolding meaningOf
 number-means n h = agree-below (λ n. meaningOf (wordNo (suc n))) (λ n. suc n) 35 tt n h
+
+-- the word of a row is the word that the signal's line spells
+row-word : (n : ℕ) → n < 35 → rowOf n .0 ≡ wordNo (suc n)
+unfolding rowOf
+row-word n h = agree-below (λ n. rowOf n .0) (λ n. wordNo (suc n)) 35 tt n h
+
+-- The search of the rows for the word w (02, T-04), where it has come to the place n: it is one of the 35; where its row has the word,
+-- the number is the next one, since places are counted from 0; where not, the signal's row is further on
+abbrev pub Searched : ℕ → ℕ → Type 0
+Searched w n = (n < 35) × (rowOf n .0 ≡ w → meaningOf w ≡ suc n) × ((rowOf n .0 ≡ w → ⊥) → suc n < meaningOf w)
+
+-- so the search for an intact word, which has a number, always hits  R-158, R-173
+pub search-at : (w : ℕ) → w < 256 → intactOf w ≡ true → (n : ℕ) → n < meaningOf w → Searched w n
+search-at w byte e n h =
+    let low : n < 35 = omega (arith, meaning-le w byte) in
+    let hit : rowOf n .0 ≡ w → meaningOf w ≡ suc n = λ here. ap meaningOf (sym here ∙ row-word n low) ∙ number-means n low in
+    let on : (rowOf n .0 ≡ w → ⊥) → meaningOf w ≡ suc n → ⊥ = λ other last. other (row-word n low ∙ ap wordNo (sym last) ∙ word-of-meaning w byte e) in
+    (low, hit, λ other. omega (arith, on other))
+
+-- a mutilated word has no meaning; the search for an intact one starts at the first row
+pub no-meaning : (w : ℕ) → w < 256 → intactOf w ≡ false → meaningOf w ≡ 0
+no-meaning w byte e = omega (arith, leb-false 1 (meaningOf w) (sym (intact-means w byte) ∙ e))
+
+pub search-starts : (w : ℕ) → w < 256 → intactOf w ≡ true → 0 < meaningOf w
+search-starts w byte e = leb-true 1 (meaningOf w) (sym (intact-means w byte) ∙ e)
 
 -- below 128 the language's count of ones is the sum of the seven units  R-014
 pub ones-agree : (w : ℕ) → w < 128 → ones w ≡ onesOf w
