@@ -20,9 +20,9 @@ use Rattle.text.specs.Shifts.{shiftTo, other}
 use Rattle.text.proofs.WalkLaws.{all-next, all-end, ends-next, ends-end}
 use Rattle.text.proofs.PrintingLaws.{printed-walk}
 use Rattle.printing.specs.declared.Reached.{Reached}
-use Rattle.printing.specs.Glyph.{GlyphsOf}
+use Rattle.printing.specs.Glyph.{putOf}
 use Rattle.printing.specs.Run.{Going, Ran, Reaches, Typed}
-use Rattle.printing.proofs.GlyphLaws.{glyph-prints, put-none, put-one}
+use Rattle.printing.proofs.GlyphLaws.{put-none, put-one}
 
 -- the shift that leaves a case
 abbrev leaving : Case → ℕ
@@ -49,15 +49,15 @@ stays Figures w f = rw (ne-eqb w letters f) (same (eqb w figures))
     same true = refl
     same false = refl
 
--- what the table's glyph says of a word
-module _ {c : Case} {w : ℕ} (byte : w < 256) {t : List ℕ} (gs : GlyphsOf c t) where
-  silent : getD t w 0 ≡ 0 → bytesOf c w ≡ []
-  silent z = sym (glyph-prints c w byte) ∙ put-none _ (sym (gs .at w byte) ∙ z)
+-- what the glyph says of a word
+module _ (c : Case) (w : ℕ) {g : ℕ} (is : putOf g ≡ bytesOf c w) where
+  silent : g ≡ 0 → bytesOf c w ≡ []
+  silent z = sym is ∙ put-none g z
 
-  one : (getD t w 0 ≡ 0 → ⊥) → bytesOf c w ≡ getD t w 0 ∷ []
-  one f = sym (glyph-prints c w byte) ∙ rw (← gs .at w byte) (put-one (getD t w 0) f)
+  one : (g ≡ 0 → ⊥) → bytesOf c w ≡ g ∷ []
+  one f = sym is ∙ put-one g f
 
-  no-shift : (getD t w 0 ≡ 0 → ⊥) → w ≡ leaving c → ⊥
+  no-shift : (g ≡ 0 → ⊥) → w ≡ leaving c → ⊥
   no-shift f e =
       let none : bytesOf c w ≡ [] = rw e (shift-prints c) in
       let both = sym (one f) ∙ none in
@@ -142,17 +142,15 @@ module _ {c : Case} {ws : List ℕ} {at : ℕ} {out : List ℕ} {to : ℕ} where
       pub run-stops : getD ws i 0 ≡ leaving c → Ran c ws at out to (stands i next c) mid
       run-stops e = record { run = g; same = refl; stopped = inr (h, e) }
 
-      module _ (byte : getD ws i 0 < 256) {t : List ℕ} (gs : GlyphsOf c t) where
-        pub run-silent : getD t (getD ws i 0) 0 ≡ 0 → (getD ws i 0 ≡ leaving c → ⊥) → Going c ws at out to (stands (i + 1) next c) mid
-        run-silent z stay =
-            going-then g (word-silent h (stays c (getD ws i 0) stay) (silent byte gs z))
+      module _ {b : ℕ} (is : putOf b ≡ bytesOf c (getD ws i 0)) where
+        pub run-silent : b ≡ 0 → (getD ws i 0 ≡ leaving c → ⊥) → Going c ws at out to (stands (i + 1) next c) mid
+        run-silent z stay = going-then g (word-silent h (stays c (getD ws i 0) stay) (silent c (getD ws i 0) is z))
 
-        module _ (f : getD t (getD ws i 0) 0 ≡ 0 → ⊥) where
-          here : Going c ws i mid next (stands (i + 1) (next + 1) c) (set mid next (getD t (getD ws i 0) 0))
-          here =
-              word-prints h (stays c (getD ws i 0) (no-shift byte gs f)) (one byte gs f)
+        module _ (f : b ≡ 0 → ⊥) where
+          here : Going c ws i mid next (stands (i + 1) (next + 1) c) (set mid next b)
+          here = word-prints h (stays c (getD ws i 0) (no-shift c (getD ws i 0) is f)) (one c (getD ws i 0) is f)
 
-          pub run-prints : Going c ws at out to (stands (i + 1) (next + 1) c) (set mid next (getD t (getD ws i 0) 0))
+          pub run-prints : Going c ws at out to (stands (i + 1) (next + 1) c) (set mid next b)
           run-prints = going-then g here
 
           pub run-room : to + length (printed c (drop at ws)) ≤ length out → next < length mid

@@ -1,14 +1,16 @@
 // Printing: signals to operator's characters (01, Text). The list is judged whole before a byte is written (`judging`), and then
 // printed run by run: a run is the words up to the next shift to the other case. The two printing functions hand on to each
 // other at the shifts, but only DEPTH deep, and `write` goes on from where they return: the stack does not grow with the list.
+ghost use mathlib.Core.Bool.{true};
 ghost use mathlib.Core.Path.{_≡_};
 ghost use Prim.Native.Nat.{_+_, _≤_};
 ghost use lib.ListN.{length, drop};
 ghost use Rattle.signals.specs.declared.Case.{Case};
 ghost use Rattle.signals.specs.declared.Case.the-variants.{Letters, Figures};
-ghost use Rattle.text.specs.Printing.{printed, Prints};
+ghost use Rattle.signals.specs.Numbers.{firstNot};
+ghost use Rattle.text.specs.Printing.{mayPrint, bytesOf, printed, Prints};
 ghost use Rattle.text.specs.Shifts.{shiftTo, other};
-ghost use Rattle.printing.specs.Glyph.{column, GlyphsOf};
+ghost use Rattle.printing.specs.Glyph.{column, putOf};
 ghost use Rattle.printing.specs.Run.{Ran, Reaches, Typed};
 use signals::Case;
 use signals::Row;
@@ -37,21 +39,21 @@ fn column_of(case: Case, row: Row) -> u8
     }
 }
 
-// What each byte prints in a case, from the code's rows; 0 where it prints none.
-fn glyphs(case: Case) -> [u8; 256]
-    ensures { λ r. ⌜ GlyphsOf case r ⌝ }
+// The byte that a word prints in a case; 0 where it prints none. A word that may stand is the error mark, or a traffic signal, which has
+// a row: the search always hits.
+fn glyph(case: Case, word: u8) -> u8
+    requires { ⌜ mayPrint word ≡ true ⌝ }
+    ensures { λ r. ⌜ putOf r ≡ bytesOf case word ⌝ }
 {
-    let rows = signals::rows();
-    let mut table = [0u8; 256];
-    table[judging::ERROR_MARK as usize] = STAR;
-    let mut i = 0;
-    while i < 35 {
-        let row = rows[i];
-        let word = row.0 as usize;
-        table[word] = column_of(case, row);
-        i += 1;
+    if word == judging::ERROR_MARK {
+        return STAR;
     }
-    table
+    let rows = signals::rows();
+    let mut place = 0;
+    while rows[place].0 != word {
+        place += 1;
+    }
+    column_of(case, rows[place])
 }
 
 // The shift that leaves a case.
@@ -66,23 +68,16 @@ fn leaving(case: Case) -> u8
 
 // Prints the words from `at` on, into the room from `to` on, up to the shift that leaves the case, if one comes: it stands at
 // that shift then, still in the case of the run.
-fn print_run(
-    case: Case,
-    table: &[u8; 256],
-    words: &[u8],
-    at: usize,
-    room: &mut [u8],
-    to: usize,
-) -> Reached
-    requires { ⌜ (GlyphsOf case (now table)) × (at ≤ length (now words)) × (to + length (printed case (drop at (now words))) ≤ length (now room)) ⌝ }
+fn print_run(case: Case, words: &[u8], at: usize, room: &mut [u8], to: usize) -> Reached
+    requires { ⌜ (length (now words) ≤ firstNot mayPrint (now words)) × (at ≤ length (now words)) × (to + length (printed case (drop at (now words))) ≤ length (now room)) ⌝ }
     ensures { λ r. ⌜ Ran case (now (words .entry)) at (now (room .entry)) to r (now (room .exit)) ⌝ }
 {
     let mut i = at;
     let mut next = to;
     while i < words.len() {
         let word = words[i];
-        let glyph = table[word as usize];
-        if glyph == 0 {
+        let byte = glyph(case, word);
+        if byte == 0 {
             if word == leaving(case) {
                 return Reached {
                     at: i,
@@ -91,7 +86,7 @@ fn print_run(
                 };
             }
         } else {
-            room[next] = glyph;
+            room[next] = byte;
             next += 1;
         }
         i += 1;
@@ -105,19 +100,11 @@ fn print_run(
 
 // Prints the words from `at` on in letters case, into the room from `to` on, until figures hands on to `print_figures`. At depth
 // 0 it returns instead: past the shift, and in the case that the shift calls for.
-fn print_letters(
-    letters: &[u8; 256],
-    figures: &[u8; 256],
-    words: &[u8],
-    at: usize,
-    room: &mut [u8],
-    to: usize,
-    depth: u8,
-) -> Reached
-    requires { ⌜ (GlyphsOf Letters (now letters)) × (GlyphsOf Figures (now figures)) × (at ≤ length (now words)) × (to + length (printed Letters (drop at (now words))) ≤ length (now room)) ⌝ }
+fn print_letters(words: &[u8], at: usize, room: &mut [u8], to: usize, depth: u8) -> Reached
+    requires { ⌜ (length (now words) ≤ firstNot mayPrint (now words)) × (at ≤ length (now words)) × (to + length (printed Letters (drop at (now words))) ≤ length (now room)) ⌝ }
     ensures { λ r. ⌜ Reaches Letters (now (words .entry)) at (now (room .entry)) to r (now (room .exit)) ⌝ }
 {
-    let run = print_run(Case::Letters, letters, words, at, room, to);
+    let run = print_run(Case::Letters, words, at, room, to);
     if words.len() <= run.at {
         return run;
     }
@@ -129,23 +116,15 @@ fn print_letters(
             case: Case::Figures,
         };
     }
-    print_figures(letters, figures, words, past, room, run.to, depth - 1)
+    print_figures(words, past, room, run.to, depth - 1)
 }
 
 // The same in figures case, until letters hands on to `print_letters`.
-fn print_figures(
-    letters: &[u8; 256],
-    figures: &[u8; 256],
-    words: &[u8],
-    at: usize,
-    room: &mut [u8],
-    to: usize,
-    depth: u8,
-) -> Reached
-    requires { ⌜ (GlyphsOf Letters (now letters)) × (GlyphsOf Figures (now figures)) × (at ≤ length (now words)) × (to + length (printed Figures (drop at (now words))) ≤ length (now room)) ⌝ }
+fn print_figures(words: &[u8], at: usize, room: &mut [u8], to: usize, depth: u8) -> Reached
+    requires { ⌜ (length (now words) ≤ firstNot mayPrint (now words)) × (at ≤ length (now words)) × (to + length (printed Figures (drop at (now words))) ≤ length (now room)) ⌝ }
     ensures { λ r. ⌜ Reaches Figures (now (words .entry)) at (now (room .entry)) to r (now (room .exit)) ⌝ }
 {
-    let run = print_run(Case::Figures, figures, words, at, room, to);
+    let run = print_run(Case::Figures, words, at, room, to);
     if words.len() <= run.at {
         return run;
     }
@@ -157,24 +136,22 @@ fn print_figures(
             case: Case::Letters,
         };
     }
-    print_letters(letters, figures, words, past, room, run.to, depth - 1)
+    print_letters(words, past, room, run.to, depth - 1)
 }
 
 // Prints all the words from the start of the room. Each turn passes a word at least, so it ends.
 fn write(words: &[u8], case: Case, room: &mut [u8]) -> Reached
-    requires { ⌜ length (printed case (now words)) ≤ length (now room) ⌝ }
+    requires { ⌜ (length (now words) ≤ firstNot mayPrint (now words)) × (length (printed case (now words)) ≤ length (now room)) ⌝ }
     ensures { λ r. ⌜ Typed case (now (words .entry)) (now (room .entry)) r (now (room .exit)) ⌝ }
 {
-    let letters = glyphs(Case::Letters);
-    let figures = glyphs(Case::Figures);
     let mut stands = Reached { at: 0, to: 0, case };
     while stands.at < words.len() {
         let at = stands.at;
         let to = stands.to;
         let in_force = stands.case;
         stands = match in_force {
-            Case::Letters => print_letters(&letters, &figures, words, at, room, to, DEPTH),
-            Case::Figures => print_figures(&letters, &figures, words, at, room, to, DEPTH),
+            Case::Letters => print_letters(words, at, room, to, DEPTH),
+            Case::Figures => print_figures(words, at, room, to, DEPTH),
         };
     }
     stands

@@ -41,7 +41,7 @@ module _ (w : ℕ) (byte : w < 256) where
   meaning-le = leb→le _ _ (both-left (leb (meaningOf w) 35) _ (both-right (Bool·beq (intactOf w) (leb 1 (meaningOf w))) _ passes))
 
   -- an intact word is that of the signal with its number
-  pub word-of-meaning : intactOf w ≡ true → wordNo (meaningOf w) ≡ w
+  word-of-meaning : intactOf w ≡ true → wordNo (meaningOf w) ≡ w
   unfolding right
   word-of-meaning e =
       let t = both-right (leb (meaningOf w) 35) _ (both-right (Bool·beq (intactOf w) (leb 1 (meaningOf w))) _ passes) in
@@ -52,6 +52,14 @@ module _ (w : ℕ) (byte : w < 256) where
   unfolding trafficOf intactOf onesOf meaningOf
   traffic-is =
       same-table trafficOf (λ w. ((intactOf w && not (eqb w 15)) && not (eqb w 51)) && not (eqb w 102)) 256 true refl w byte
+
+  -- so it is intact
+  pub traffic-intact : trafficOf w ≡ true → intactOf w ≡ true
+  traffic-intact e = go (intactOf w) refl
+    where
+      go : (b : Bool) → intactOf w ≡ b → b ≡ true
+      go true f = refl
+      go false f = sym (rw f at traffic-is) ∙ e
 
 -- how many numbers below n pass the test
 abbrev countBelow : (ℕ → Bool) → ℕ → ℕ
@@ -69,7 +77,7 @@ unfolding meaningOf
 number-means n h = agree-below (λ n. meaningOf (wordNo (suc n))) (λ n. suc n) 35 tt n h
 
 -- the word of a row is the word that the signal's line spells
-row-word : (n : ℕ) → n < 35 → rowOf n .0 ≡ wordNo (suc n)
+pub row-word : (n : ℕ) → n < 35 → rowOf n .0 ≡ wordNo (suc n)
 unfolding rowOf
 row-word n h = agree-below (λ n. rowOf n .0) (λ n. wordNo (suc n)) 35 tt n h
 

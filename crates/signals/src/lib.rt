@@ -1,5 +1,5 @@
-// The seven-unit code (01, The code; 001, tables 1 and 2): the meaning of a word, whether it is intact, and the 35 rows
-// that the encoder and the printer read.
+// The seven-unit code (01, The code; 001, tables 1 and 2): the meaning of a word, whether it is intact, and the 35 rows, which the
+// encoder and the printer search too.
 ghost use mathlib.Core.Path.{_≡_};
 ghost use Rattle.signals.specs.Units.{intactOf};
 ghost use Rattle.signals.specs.Meaning.{meaningOf, trafficOf};
@@ -102,7 +102,7 @@ pub fn is_traffic(word: u8) -> bool
     intact(word) & (word != ALPHA) & (word != BETA) & (word != RQ)
 }
 
-// The table of rows. A constant is built anew wherever it is used: a caller that reads it in a loop builds it once, before.
+// The table of rows. A constant is built anew, on the stack, wherever it is used.
 pub fn rows() -> [Row; 35]
     ensures { λ r. ⌜ Rows r ⌝ }
 {

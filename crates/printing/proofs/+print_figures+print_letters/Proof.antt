@@ -17,34 +17,34 @@ use Rattle.printing.proofs.print_run.Reads as print-run-reads
 use Rattle.printing.proofs.+print_figures+print_letters.{statement}
 use Rattle.printing.proofs.+print_figures+print_letters.Tie.{close}
 
-abbrev μ-print-figures : Measures 4 print-figures-kinds.ps ℕ
-μ-print-figures κs a = length (a .1 .1 .0 .now) - a .1 .1 .1 .0
+abbrev μ-print-figures : Measures 2 print-figures-kinds.ps ℕ
+μ-print-figures κs a = length (a .0 .now) - a .1 .0
 
-abbrev μ-print-letters : Measures 4 print-letters-kinds.ps ℕ
-μ-print-letters κs a = length (a .1 .1 .0 .now) - a .1 .1 .1 .0
+abbrev μ-print-letters : Measures 2 print-letters-kinds.ps ℕ
+μ-print-letters κs a = length (a .0 .now) - a .1 .0
 
-abbrev print-figures-at : ℕ → In 4 print-figures-kinds.ps
+abbrev print-figures-at : ℕ → In 2 print-figures-kinds.ps
 print-figures-at t =
-    and 4 print-figures-kinds.ps (is 4 print-figures-kinds.ps μ-print-figures t) print-figures.Pre
+    and 2 print-figures-kinds.ps (is 2 print-figures-kinds.ps μ-print-figures t) print-figures.Pre
 
-abbrev print-figures-below : ℕ → In 4 print-figures-kinds.ps
+abbrev print-figures-below : ℕ → In 2 print-figures-kinds.ps
 print-figures-below t =
     and
-    4
+    2
     print-figures-kinds.ps
-    (falls 4 print-figures-kinds.ps _<_ μ-print-figures t)
+    (falls 2 print-figures-kinds.ps _<_ μ-print-figures t)
     print-figures.Pre
 
-abbrev print-letters-at : ℕ → In 4 print-letters-kinds.ps
+abbrev print-letters-at : ℕ → In 2 print-letters-kinds.ps
 print-letters-at t =
-    and 4 print-letters-kinds.ps (is 4 print-letters-kinds.ps μ-print-letters t) print-letters.Pre
+    and 2 print-letters-kinds.ps (is 2 print-letters-kinds.ps μ-print-letters t) print-letters.Pre
 
-abbrev print-letters-below : ℕ → In 4 print-letters-kinds.ps
+abbrev print-letters-below : ℕ → In 2 print-letters-kinds.ps
 print-letters-below t =
     and
-    4
+    2
     print-letters-kinds.ps
-    (falls 4 print-letters-kinds.ps _<_ μ-print-letters t)
+    (falls 2 print-letters-kinds.ps _<_ μ-print-letters t)
     print-letters.Pre
 
 -- what each may rest on: the other, at a smaller measure, and the run
@@ -57,10 +57,10 @@ print-letters-rests t = (print-run-reads.Asked, print-run-reads.Learnt, print-fi
 print-figures-print-run-requires : (t : ℕ) → print-figures-lts.Need-print-run-requires (print-figures-rests t) (print-figures-at t) print-figures.Post
 print-figures-print-run-requires t c κs =
     let a = c .before .before .before in
-    (a .pre .1 .1, a .pre .1 .2, a .pre .1 .3)
+    (a .pre .1 .0, a .pre .1 .1, a .pre .1 .2)
 
 print-figures-same-length : (t : ℕ) → print-figures-lts.Need-same-length (print-figures-rests t) (print-figures-at t) print-figures.Post
-print-figures-same-length t c = c .before .before .before .before .print-run .kept .1 .1 .1 .1 .0
+print-figures-same-length t c = c .before .before .before .before .print-run .kept .1 .1 .1 .0
 
 print-figures-returns : (t : ℕ) → print-figures-lts.Need-returns (print-figures-rests t) (print-figures-at t) print-figures.Post
 print-figures-returns t c = ran-all (c .before .before .before .before .print-run .ensures) (c .if1 .taken)
@@ -69,7 +69,7 @@ print-figures-add-past : (t : ℕ) → print-figures-lts.Need-add-past (print-fi
 print-figures-add-past t c = omega arith
 
 print-figures-same-length-2 : (t : ℕ) → print-figures-lts.Need-same-length-2 (print-figures-rests t) (print-figures-at t) print-figures.Post
-print-figures-same-length-2 t c = c .before .before .before .before .before .before .print-run .kept .1 .1 .1 .1 .0
+print-figures-same-length-2 t c = c .before .before .before .before .before .before .print-run .kept .1 .1 .1 .0
 
 print-figures-returns-2 : (t : ℕ) → print-figures-lts.Need-returns-2 (print-figures-rests t) (print-figures-at t) print-figures.Post
 print-figures-returns-2 t c = ran-on (c .before .before .before .before .before .before .print-run .ensures) (c .before .before .if1 .left)
@@ -81,10 +81,10 @@ print-figures-print-letters-requires : (t : ℕ) → print-figures-lts.Need-prin
 print-figures-print-letters-requires t c κs =
     let a = c .before .before .before .before .before .before .before .before .before .before .before in
     let on = ran-on (c .before .before .before .before .before .before .before .print-run .ensures) (c .before .before .before .if1 .left) in
-    (omega (arith, a .pre .0, c .before .before .before .if1 .left, c .before .before .before .before .before .before .before .print-run .ensures .run .from), (a .pre .1 .0, a .pre .1 .1, on .going .within, going-room (on .going) (a .pre .1 .3)))
+    (omega (arith, a .pre .0, c .before .before .before .if1 .left, c .before .before .before .before .before .before .before .print-run .ensures .run .from), (a .pre .1 .0, on .going .within, going-room (on .going) (a .pre .1 .2)))
 
 print-figures-same-length-3 : (t : ℕ) → print-figures-lts.Need-same-length-3 (print-figures-rests t) (print-figures-at t) print-figures.Post
-print-figures-same-length-3 t c = c .before .before .print-letters .kept .1 .1 .1 .1 .0 ∙ c .before .before .before .before .before .before .before .before .before .before .print-run .kept .1 .1 .1 .1 .0
+print-figures-same-length-3 t c = c .before .before .print-letters .kept .1 .1 .0 ∙ c .before .before .before .before .before .before .before .before .before .before .print-run .kept .1 .1 .1 .0
 
 print-figures-returns-3 : (t : ℕ) → print-figures-lts.Need-returns-3 (print-figures-rests t) (print-figures-at t) print-figures.Post
 print-figures-returns-3 t c = reaches-then (ran-on (c .before .before .before .before .before .before .before .before .before .before .print-run .ensures) (c .before .before .before .before .before .before .if1 .left)) (c .before .before .print-letters .ensures)
@@ -92,10 +92,10 @@ print-figures-returns-3 t c = reaches-then (ran-on (c .before .before .before .b
 print-letters-print-run-requires : (t : ℕ) → print-letters-lts.Need-print-run-requires (print-letters-rests t) (print-letters-at t) print-letters.Post
 print-letters-print-run-requires t c κs =
     let a = c .before .before .before in
-    (a .pre .1 .0, a .pre .1 .2, a .pre .1 .3)
+    (a .pre .1 .0, a .pre .1 .1, a .pre .1 .2)
 
 print-letters-same-length : (t : ℕ) → print-letters-lts.Need-same-length (print-letters-rests t) (print-letters-at t) print-letters.Post
-print-letters-same-length t c = c .before .before .before .before .print-run .kept .1 .1 .1 .1 .0
+print-letters-same-length t c = c .before .before .before .before .print-run .kept .1 .1 .1 .0
 
 print-letters-returns : (t : ℕ) → print-letters-lts.Need-returns (print-letters-rests t) (print-letters-at t) print-letters.Post
 print-letters-returns t c = ran-all (c .before .before .before .before .print-run .ensures) (c .if1 .taken)
@@ -104,7 +104,7 @@ print-letters-add-past : (t : ℕ) → print-letters-lts.Need-add-past (print-le
 print-letters-add-past t c = omega arith
 
 print-letters-same-length-2 : (t : ℕ) → print-letters-lts.Need-same-length-2 (print-letters-rests t) (print-letters-at t) print-letters.Post
-print-letters-same-length-2 t c = c .before .before .before .before .before .before .print-run .kept .1 .1 .1 .1 .0
+print-letters-same-length-2 t c = c .before .before .before .before .before .before .print-run .kept .1 .1 .1 .0
 
 print-letters-returns-2 : (t : ℕ) → print-letters-lts.Need-returns-2 (print-letters-rests t) (print-letters-at t) print-letters.Post
 print-letters-returns-2 t c = ran-on (c .before .before .before .before .before .before .print-run .ensures) (c .before .before .if1 .left)
@@ -116,10 +116,10 @@ print-letters-print-figures-requires : (t : ℕ) → print-letters-lts.Need-prin
 print-letters-print-figures-requires t c κs =
     let a = c .before .before .before .before .before .before .before .before .before .before .before in
     let on = ran-on (c .before .before .before .before .before .before .before .print-run .ensures) (c .before .before .before .if1 .left) in
-    (omega (arith, a .pre .0, c .before .before .before .if1 .left, c .before .before .before .before .before .before .before .print-run .ensures .run .from), (a .pre .1 .0, a .pre .1 .1, on .going .within, going-room (on .going) (a .pre .1 .3)))
+    (omega (arith, a .pre .0, c .before .before .before .if1 .left, c .before .before .before .before .before .before .before .print-run .ensures .run .from), (a .pre .1 .0, on .going .within, going-room (on .going) (a .pre .1 .2)))
 
 print-letters-same-length-3 : (t : ℕ) → print-letters-lts.Need-same-length-3 (print-letters-rests t) (print-letters-at t) print-letters.Post
-print-letters-same-length-3 t c = c .before .before .print-figures .kept .1 .1 .1 .1 .0 ∙ c .before .before .before .before .before .before .before .before .before .before .print-run .kept .1 .1 .1 .1 .0
+print-letters-same-length-3 t c = c .before .before .print-figures .kept .1 .1 .0 ∙ c .before .before .before .before .before .before .before .before .before .before .print-run .kept .1 .1 .1 .0
 
 print-letters-returns-3 : (t : ℕ) → print-letters-lts.Need-returns-3 (print-letters-rests t) (print-letters-at t) print-letters.Post
 print-letters-returns-3 t c = reaches-then (ran-on (c .before .before .before .before .before .before .before .before .before .before .print-run .ensures) (c .before .before .before .before .before .before .if1 .left)) (c .before .before .print-figures .ensures)

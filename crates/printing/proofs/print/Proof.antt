@@ -50,11 +50,13 @@ returns-3 c =
 write-requires : tie.Need-write-requires
 write-requires c κs =
     let a = c .before .before .before .before .before .before .before in
-    let all : length (a .args .words .now) ≤ firstNot mayPrint (a .args .words .now) = omega (arith, c .before .before .before .first-bad .ensures, c .before .before .if2 .left) in
-    ⊎-elim
-    (λ w. omega (arith, w .1 .ensures .1 all (a .args .case), w .2 .left))
-    (λ w. omega (arith, w .left, at-most (a .args .case) (a .args .words .now)))
-    (c .before .if3 .came)
+    let all : length (a .args .words .now) ≤ firstNot mayPrint (a .args .words .now) = omega (arith, c .before .before .before .first-bad .ensures, c .before .before .if2 .left) in (
+      all,
+      ⊎-elim
+          (λ w. omega (arith, w .1 .ensures .1 all (a .args .case), w .2 .left))
+          (λ w. omega (arith, w .left, at-most (a .args .case) (a .args .words .now)))
+          (c .before .if3 .came),
+    )
 
 same-length : tie.Need-same-length
 same-length c = search needs

@@ -5,6 +5,8 @@ use Prim.Native.Nat.{_-_}
 use native.Mathlib.Omega.{arith}
 use lib.ListN.{length}
 use borrow.Author.Needs.{needs}
+use Rattle.text.specs.Printing.{mayPrint}
+use Rattle.judging.proofs.SizeLaws.{passes}
 use Rattle.printing.specs.Run.{Going}
 use Rattle.printing.proofs.RunLaws.{stands, going-starts, going-length, run-ends, run-stops, run-silent, run-room, run-prints}
 use Rattle.printing.proofs.print_run.Statement.{statement}
@@ -14,10 +16,10 @@ use Rattle.printing.proofs.print_run.Lts as lts
 use Rattle.printing.proofs.leaving.Reads as leaving-reads
 
 abbrev Inv-loop : tie.InvT-loop
-Inv-loop case table words at room₀ to i₀ next₀ room i next = Going case words at room₀ to (stands i next case) room
+Inv-loop case words at room₀ to i₀ next₀ room i next = Going case words at room₀ to (stands i next case) room
 
 abbrev μ-loop : tie.MeasureT-loop
-μ-loop case table words at room₀ to i₀ next₀ room i next = length words - i
+μ-loop case words at room₀ to i₀ next₀ room i next = length words - i
 
 loop-holds : tie.Need-loop-holds Inv-loop μ-loop
 loop-holds c =
@@ -27,13 +29,10 @@ loop-holds c =
 shared-slice-read-word : tie.Need-shared-slice-read-word Inv-loop μ-loop
 shared-slice-read-word c = omega arith
 
-cast-glyph : tie.Need-cast-glyph Inv-loop μ-loop
-cast-glyph c =
-    omega (arith, c .shared-slice-known2 .given (c .before .before .loop .i))
-
-element-copy-out-glyph : tie.Need-element-copy-out-glyph Inv-loop μ-loop
-element-copy-out-glyph c =
-    c .shared-slice-known2 .given (c .before .before .loop .i) .fits
+glyph-requires : tie.Need-glyph-requires Inv-loop μ-loop
+glyph-requires c κs =
+    let a = c .before .before .before .before .before in
+    passes mayPrint (a .args .words .now) (c .before .before .loop .i) (c .before .loop-test .taken) (a .pre .0)
 
 leaving-requires : tie.Need-leaving-requires Inv-loop μ-loop
 leaving-requires c κs = search needs
@@ -54,13 +53,13 @@ slice-write-room : tie.Need-slice-write-room Inv-loop μ-loop
 slice-write-room c =
     let a = c .before .before .before .before .before .before .before in
     let l = c .before .before .before .before .loop in
-    run-room (l .inv) (c .before .before .before .loop-test .taken) (c .before .before .shared-slice-known2 .given (l .i) .fits) (a .pre .0) (c .if1 .left) (a .pre .2)
+    run-room (l .inv) (c .before .before .before .loop-test .taken) (c .before .glyph .ensures) (c .if1 .left) (a .pre .2)
 
 add-next : tie.Need-add-next Inv-loop μ-loop
 add-next c =
     let a = c .before .before .before .before .before .before .before in
     let l = c .before .before .before .before .loop in
-    omega (arith, going-length (l .inv), run-room (l .inv) (c .before .before .before .loop-test .taken) (c .before .before .shared-slice-known2 .given (l .i) .fits) (a .pre .0) (c .if1 .left) (a .pre .2))
+    omega (arith, going-length (l .inv), run-room (l .inv) (c .before .before .before .loop-test .taken) (c .before .glyph .ensures) (c .if1 .left) (a .pre .2))
 
 add-i : tie.Need-add-i Inv-loop μ-loop
 add-i c = omega arith
@@ -73,10 +72,10 @@ loop-again c =
     let a = c .before .before .before .before .before .before .before in
     let l = c .before .before .before .before .loop in
     let h = c .before .before .before .loop-test .taken in
-    let byte = c .before .before .shared-slice-known2 .given (l .i) .fits in
+    let is = c .before .glyph .ensures in
     ⊎-elim
-    (λ w. rw (w .3, w .4) (run-silent (l .inv) h byte (a .pre .0) (w .0 .taken) (λ e. w .2 .left (e ∙ sym (w .1 .ensures)))))
-    (λ w. rw (w .1, w .2) (run-prints (l .inv) h byte (a .pre .0) (w .0 .left)))
+    (λ w. rw (w .3, w .4) (run-silent (l .inv) h is (w .0 .taken) (λ e. w .2 .left (e ∙ sym (w .1 .ensures)))))
+    (λ w. rw (w .1, w .2) (run-prints (l .inv) h is (w .0 .left)))
     (c .if1 .came)
 
 same-length-2 : tie.Need-same-length-2 Inv-loop μ-loop
@@ -99,8 +98,7 @@ print-run-spec =
     μ-loop
     loop-holds
     shared-slice-read-word
-    cast-glyph
-    element-copy-out-glyph
+    glyph-requires
     leaving-requires
     same-length
     returns

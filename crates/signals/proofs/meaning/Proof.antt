@@ -9,10 +9,6 @@ use Rattle.signals.specs.Meaning.{meaningOf}
 use Rattle.signals.proofs.CodeLaws.{Searched, search-at, search-starts, no-meaning}
 use Rattle.signals.proofs.meaning.Statement.{statement}
 use Rattle.signals.proofs.meaning.Tie as tie
-use Rattle.signals.proofs.meaning.Reads as reads
-use Rattle.signals.proofs.meaning.Lts as lts
-use Rattle.signals.proofs.intact.Reads as intact-reads
-use Rattle.signals.proofs.rows.Reads as rows-reads
 
 abbrev Inv-loop : tie.InvT-loop
 Inv-loop word rows place₀ place = place < meaningOf word
@@ -38,7 +34,7 @@ loop-holds c =
     search-starts (a .args .word) (a .fits .word .fits) (sym (k .intact .ensures) ∙ not-false (k .intact .result) (c .before .if1 .left))
 
 -- the lemma of the search, at the place that it has come to
-at-place : (c : lts.At-loop (intact-reads.Asked, intact-reads.Learnt, rows-reads.Asked, rows-reads.Learnt) reads.Pre reads.Post Inv-loop μ-loop) → Searched (c .before .before .before .before .args .word) (c .loop .place)
+at-place : (c : tie.At-loop Inv-loop μ-loop) → Searched (c .before .before .before .before .args .word) (c .loop .place)
 at-place c =
     let k = c .before .before .before in
     let a = k .before in
