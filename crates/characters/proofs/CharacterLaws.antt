@@ -1,5 +1,5 @@
--- A byte's signals, read off the row of the signal that has it: tests that antt computes over the numbers below 128, and from
--- there on none has a signal.
+-- A byte's signals, read off the row of the signal that has it, and the place of that row: tests that antt computes over the
+-- numbers below 128, from where on none has a signal, and over the 35 rows.
 -- Assumes nothing.
 use mathlib.Core.Path.{_≡_, refl, ap, sym, _∙_}
 use mathlib.Core.Bool.{Bool, true, false, not, _&&_}
@@ -7,8 +7,8 @@ use mathlib.Core.List.{List, [], _∷_, _++_}
 use Prim.Native.Nat.{ℕ, zero, suc, _+_, _-_, _<_, _≤_}
 use native.Mathlib.Numerals.{sub-one}
 use native.Mathlib.Omega.{arith}
+use lib.Bits.{bitAnd}
 use lib.Dec.{eqb, ltb, leb, leb→le}
-use lib.ListN.{getD}
 use borrow.Author.Tests.{eq-eqb, ne-eqb, lt-ltb, le-ltb, lt-leb, le-leb, ltb-true, ltb-false}
 use Rattle.laws.specs.Choice.{if_then_else_}
 use Rattle.laws.proofs.Below.{at-below}
@@ -19,8 +19,8 @@ use Rattle.signals.specs.declared.Row.{Row}
 use Rattle.signals.specs.Rows.{rowOf}
 use Rattle.text.specs.Encoding.{raised, characterOf, hasSignal, shift, signalsFor, caseAfter}
 use Rattle.text.specs.Shifts.{shiftTo, other}
-use Rattle.text.proofs.CharacterLaws.{past-none, signal-is-low}
-use Rattle.characters.specs.Holder.{holderOf, entryOf, Numbers, numbered, HasRow}
+use Rattle.text.proofs.CharacterLaws.{signal-is-low}
+use Rattle.characters.specs.Holder.{holderOf, HasRow}
 
 -- what a byte gives in a case: its signals, and the case after them
 abbrev Turned : Type 0
@@ -51,22 +51,31 @@ same-has : tabFrom (λ x. ltb 0 (holderOf x)) 128 0 ≡ tabFrom hasSignal 128 0
 unfolding holderOf characterOf raised
 same-has = refl
 
-same-entry : tabFrom (λ x. leb 128 (entryOf x)) 128 0 ≡ tabFrom hasSignal 128 0
-unfolding holderOf characterOf raised
-same-entry = refl
+-- Where a byte's row is: a letter's by its last five bits, any other's where the figure column has the byte. A byte of which
+-- nothing is said has the value that the table has, so that one table says it of all.
+abbrev letterHeld : ℕ → ℕ
+letterHeld x = if hasSignal x && leb 65 x then bitAnd x 31 else holderOf x
 
--- by the table of characters, a number is given to the bytes that have a signal
-pub numbered-has : (l : List ℕ) → Numbers l → (x : ℕ) → numbered l x ≡ hasSignal x
-numbered-has l t x = go (ltb x 128) refl
-  where
-    go : (b : Bool) → ltb x 128 ≡ b → (b && leb 128 (getD l x 0)) ≡ hasSignal x
-    go true e =
-        let h = ltb-true x 128 e in
-        rw (t x h) (same-table (λ x. leb 128 (entryOf x)) hasSignal 128 false same-entry x h)
-    go false e = sym (past-none x (ltb-false x 128 e))
+letter-table : tabFrom letterHeld 128 0 ≡ tabFrom holderOf 128 0
+unfolding holderOf characterOf raised
+letter-table = refl
+
+abbrev figureHeld : ℕ → ℕ
+figureHeld x = if hasSignal x then rowOf (holderOf x - 1) .2 else x
+
+figure-table : tabFrom figureHeld 65 0 ≡ tabFrom (λ x. x) 65 0
+unfolding holderOf rowOf characterOf raised
+figure-table = refl
+
+abbrev placeHolds : ℕ → ℕ
+placeHolds p = if hasSignal (rowOf p .2) then holderOf (rowOf p .2) else suc p
+
+place-table : tabFrom placeHolds 35 0 ≡ tabFrom suc 35 0
+unfolding holderOf rowOf characterOf raised
+place-table = refl
 
 module _ (x : ℕ) (has : hasSignal x ≡ true) where
-  pub low : x < 128
+  low : x < 128
   low = signal-is-low x has
 
   pub holder-le : holderOf x ≤ 35
@@ -76,13 +85,29 @@ module _ (x : ℕ) (has : hasSignal x ≡ true) where
   pub holder-pos : 0 < holderOf x
   holder-pos = ltb-true 0 (holderOf x) (same-table (λ x. ltb 0 (holderOf x)) hasSignal 128 false same-has x low ∙ has)
 
-  -- its entry in the table
-  pub entry-is : entryOf x ≡ 128 + holderOf x
-  entry-is = rw (ne-eqb (holderOf x) 0 (λ z. omega (arith, holder-pos)))
-
   -- the row at its signal's place
   pub has-row : (place : ℕ) → place ≡ holderOf x - 1 → (r : Row) → r ≡ rowOf place → HasRow x r
   has-row place e r p = record { has = has; row = p ∙ ap rowOf e }
+
+  -- the letters are signals 1 to 26, as their last five bits count them, small or not
+  pub letter-holder : 65 ≤ x → bitAnd x 31 ≡ holderOf x
+  letter-holder l = rw (has, le-leb 65 x l) at (same-table letterHeld holderOf 128 0 letter-table x low)
+
+  -- any other byte is in the figure column where its signal's row is, and nowhere else
+  figure-there : x < 65 → rowOf (holderOf x - 1) .2 ≡ x
+  figure-there l = rw has at (same-table figureHeld (λ x. x) 65 0 figure-table x l)
+
+  pub figure-hit : (place : ℕ) → place < 35 → rowOf place .2 ≡ x → holderOf x ≡ suc place
+  figure-hit place h e = rw (e, has) at (same-table placeHolds suc 35 0 place-table place h)
+
+  pub figure-missed : x < 65 → (place : ℕ) → place < holderOf x → (rowOf place .2 ≡ x → ⊥) → place + 1 < holderOf x
+  figure-missed l place h n = go (ltb (place + 1) (holderOf x)) refl
+    where
+      go : (b : Bool) → ltb (place + 1) (holderOf x) ≡ b → place + 1 < holderOf x
+      go true e = ltb-true (place + 1) (holderOf x) e
+      go false e =
+          let here : holderOf x - 1 ≡ place = omega (arith, h, ltb-false (place + 1) (holderOf x) e) in
+          absurd (n (rw here at (figure-there l)))
 
 at-row : (c : Case) (n x : ℕ) → 0 < n → byNumber c n x ≡ byRow c (rowOf (n - 1)) x
 unfolding byNumber

@@ -1,3 +1,3 @@
--- What the table of characters holds, beside the rules of `text`.
---     Holder   the table from characters to signal numbers
+-- The number of the signal that has a character, beside the rules of `text`.
+--     Holder   a byte's holder, and its row
 pub mod Holder

@@ -2,16 +2,14 @@
 // a signal is written (`characters`).
 ghost use mathlib.Core.Bool.{true};
 ghost use mathlib.Core.Path.{_≡_};
-ghost use Prim.Native.Nat.{_+_, _<_, _≤_};
+ghost use Prim.Native.Nat.{_+_, _≤_};
 ghost use lib.ListN.{length};
 ghost use Rattle.laws.specs.Choice.{if_then_else_};
 ghost use Rattle.laws.specs.Room.{Wrote};
 ghost use Rattle.signals.specs.Numbers.{firstNot};
-ghost use Rattle.signals.specs.declared.Row.{Row};
-ghost use Rattle.signals.specs.Rows.{Rows, rowOf};
 ghost use Rattle.text.specs.Encoding.{characterOf, hasSignal, signalsFor, caseAfter, encoded, endsEncoded, Encodes};
 ghost use Rattle.text.specs.Shifts.{shiftTo, other};
-ghost use Rattle.characters.specs.Holder.{Numbers, HasRow};
+ghost use Rattle.characters.specs.Holder.{HasRow};
 use signals::Case;
 use signals::Row;
 use text::Encoded;
@@ -43,12 +41,21 @@ fn shift_to(case: Case) -> u8
     }
 }
 
-// The place of a byte's signal in the table of rows.
-fn place_of(byte: u8, numbers: &[u8; 128]) -> usize
-    requires { ⌜ Numbers (now numbers) × (hasSignal byte ≡ true) ⌝ }
-    ensures { λ r. ⌜ (r < 35) × ((row : Row) → row ≡ rowOf r → HasRow byte row) ⌝ }
+// The row of a byte's signal. The letters are signals 1 to 26 in their order, which their last five bits count, small or not; any other
+// character stands once in the figure column, so the search always hits. (What stands there more often, 0 and 35, has no signal.)
+fn row_of(byte: u8) -> Row
+    requires { ⌜ hasSignal byte ≡ true ⌝ }
+    ensures { λ r. ⌜ HasRow byte r ⌝ }
 {
-    numbers[byte as usize] as usize - characters::ENTRY_OF_FIRST
+    let rows = signals::rows();
+    if FIRST_LETTER <= byte {
+        return rows[(byte & 31) as usize - 1];
+    }
+    let mut place = 0;
+    while rows[place].2 != byte {
+        place += 1;
+    }
+    rows[place]
 }
 
 // Whether a byte needs the other case than the one in force. A small letter stands in no column of its row, so a letter is told by
@@ -102,38 +109,32 @@ fn put(room: &mut [u8], from: Reached, byte: u8, row: Row) -> Reached
 }
 
 // The room that the text's signals need.
-fn room_for(text: &[u8], numbers: &[u8; 128], rows: [Row; 35], case: Case) -> usize
-    requires { ⌜ Numbers (now numbers) × Rows rows × (length (now text) ≤ 4096) × (length (now text) ≤ firstNot hasSignal (now text)) ⌝ }
+fn room_for(text: &[u8], case: Case) -> usize
+    requires { ⌜ (length (now text) ≤ 4096) × (length (now text) ≤ firstNot hasSignal (now text)) ⌝ }
     ensures { λ r. ⌜ r ≡ length (encoded case (now (text .entry))) ⌝ }
 {
     let mut to = Reached { at: 0, case };
     let mut i = 0;
     while i < text.len() {
         let byte = text[i];
-        to = past(to, byte, rows[place_of(byte, numbers)]);
+        to = past(to, byte, row_of(byte));
         i += 1;
     }
     to.at
 }
 
-// Writes the text's signals at the start of the room, two bytes a turn.
-fn write(text: &[u8], numbers: &[u8; 128], rows: [Row; 35], case: Case, room: &mut [u8]) -> Reached
-    requires { ⌜ Numbers (now numbers) × Rows rows × (length (now text) ≤ firstNot hasSignal (now text)) × (length (encoded case (now text)) ≤ length (now room)) ⌝ }
+// Writes the text's signals at the start of the room.
+fn write(text: &[u8], case: Case, room: &mut [u8]) -> Reached
+    requires { ⌜ (length (now text) ≤ firstNot hasSignal (now text)) × (length (encoded case (now text)) ≤ length (now room)) ⌝ }
     ensures { λ r. ⌜ Wrote (now (room .entry)) 0 (encoded case (now (text .entry))) (r .at) (now (room .exit)) ⌝ }
     ensures { λ r. ⌜ r .case ≡ endsEncoded case (now (text .entry)) ⌝ }
 {
     let mut to = Reached { at: 0, case };
     let mut i = 0;
-    while i + 1 < text.len() {
+    while i < text.len() {
         let byte = text[i];
-        to = put(room, to, byte, rows[place_of(byte, numbers)]);
-        let next = text[i + 1];
-        to = put(room, to, next, rows[place_of(next, numbers)]);
-        i += 2;
-    }
-    if i < text.len() {
-        let last = text[i];
-        to = put(room, to, last, rows[place_of(last, numbers)]);
+        to = put(room, to, byte, row_of(byte));
+        i += 1;
     }
     to
 }
@@ -147,21 +148,18 @@ pub fn encode(text: &[u8], case: Case, room: &mut [u8]) -> Encoded
     if 4096 < text.len() {
         return Encoded::TooLong;
     }
-    // The tables are built once, and lent to each loop.
-    let numbers = characters::numbers();
-    let first = characters::first_without(text, &numbers);
+    let first = characters::first_without(text);
     if first < text.len() {
         return Encoded::NoSignal(first);
     }
-    let rows = signals::rows();
     // A character takes two signals at most, so only a shorter room has to be measured.
     if room.len() < 2 * text.len() {
-        let needed = room_for(text, &numbers, rows, case);
+        let needed = room_for(text, case);
         if room.len() < needed {
             return Encoded::NoRoom(needed);
         }
     }
-    let end = write(text, &numbers, rows, case, room);
+    let end = write(text, case, room);
     let ends = end.case;
     Encoded::Written {
         count: end.at,

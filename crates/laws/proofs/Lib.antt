@@ -1,6 +1,6 @@
 -- Laws that more than one crate cites, each stated once.
 --     Below    a rule of every number below a bound, from one computed test
---     Table    a table that is a tabulated rule has the rule's value at each place
+--     Table    two rules with the same table agree at each of its places
 --     Writes   runs of stores into lent room
 --     Unique   a promise that leaves one answer
 pub mod Below

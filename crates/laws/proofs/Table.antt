@@ -17,7 +17,7 @@ tab-from f d (suc n) i zero h = ap f (sym (add-zero i))
 tab-from f d (suc n) i (suc k) h =
     tab-from f d n (suc i) k (le-of-suc-le-suc h) ∙ ap f (suc-add i k ∙ sym (add-suc i k))
 
-pub tab-at {ℓ} : {A : Type ℓ} (f : ℕ → A) (n : ℕ) (d : A) (k : ℕ) → k < n → getD (tabFrom f n 0) k d ≡ f k
+tab-at {ℓ} : {A : Type ℓ} (f : ℕ → A) (n : ℕ) (d : A) (k : ℕ) → k < n → getD (tabFrom f n 0) k d ≡ f k
 tab-at f n d k h = tab-from f d n 0 k h ∙ ap f (zero-add k)
 
 -- two rules with the same table agree at each place

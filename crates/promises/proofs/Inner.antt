@@ -17,8 +17,8 @@ use Rattle.signals.specs.declared.Row.{Row}
 use Rattle.signals.specs.Meaning.{trafficOf}
 use Rattle.signals.specs.Rows.{row, Rows}
 use Rattle.signals.specs.Numbers.{firstNot}
+use Rattle.text.specs.Encoding.{hasSignal}
 use Rattle.text.specs.Printing.{mayPrint}
-use Rattle.characters.specs.Holder.{Numbers, numbered}
 use Rattle.judging.specs.Size.{sizesOf}
 use Rattle.mode_a.specs.declared.Role.{Role}
 use Rattle.mode_a.specs.declared.Number.{Number}
@@ -55,13 +55,9 @@ rows-unique r r′ n n′ p q =
 pub is-traffic-unique : (w : ℕ) (r r′ : Bool) → r ≡ trafficOf w → r′ ≡ trafficOf w → r ≡ r′
 is-traffic-unique w r r′ p q = unique p q
 
--- `characters::numbers`: the length, 128, is the answer's type; `characters::first_without`, whatever table is lent
-pub numbers-unique : (r r′ : List ℕ) → length r ≡ 128 → length r′ ≡ 128 → Numbers r → Numbers r′ → r ≡ r′
-numbers-unique r r′ n n′ p q =
-    ext-getD 0 r r′ (unique n n′) (λ x h. unique (p x (subst (λ k. x < k) n h)) (q x (subst (λ k. x < k) n h)))
-
-pub first-without-unique : (text numbers : List ℕ) (r r′ : ℕ) → r ≡ firstNot (numbered numbers) text → r′ ≡ firstNot (numbered numbers) text → r ≡ r′
-first-without-unique text numbers r r′ p q = unique p q
+-- `characters::first_without`
+pub first-without-unique : (text : List ℕ) (r r′ : ℕ) → r ≡ firstNot hasSignal text → r′ ≡ firstNot hasSignal text → r ≡ r′
+first-without-unique text r r′ p q = unique p q
 
 -- `judging::first_bad`, `judging::needed`
 pub first-bad-unique : (ws : List ℕ) (r r′ : ℕ) → r ≡ firstNot mayPrint ws → r′ ≡ firstNot mayPrint ws → r ≡ r′

@@ -8,30 +8,29 @@ use Rattle.encoding.proofs.room_for.Statement.{statement}
 use Rattle.encoding.proofs.room_for.Tie as tie
 
 abbrev Inv : tie.InvT-loop
-Inv text numbers rows to₀ i₀ to i = Turning text (to₀ .case) (to .at) (to .case) i
+Inv text to₀ i₀ to i = Turning text (to₀ .case) (to .at) (to .case) i
 
 abbrev μ : tie.MeasureT-loop
-μ text numbers rows to₀ i₀ to i = length text - i
+μ text to₀ i₀ to i = length text - i
 
-place-of-requires : tie.Need-place-of-requires Inv μ
-place-of-requires c κs =
+row-of-requires : tie.Need-row-of-requires Inv μ
+row-of-requires c κs =
     let a = c .before .before .before .before in
-    (a .pre .0, has-at (a .args .text .now) (c .before .before .loop .i) (a .pre .3) (c .before .loop-test .taken))
+    has-at (a .args .text .now) (c .before .before .loop .i) (a .pre .1) (c .before .loop-test .taken)
 
 past-requires : tie.Need-past-requires Inv μ
 past-requires c κs =
-    let a = c .before .before .before .before .before .before in
-    let l = c .before .before .before .before .loop in
+    let a = c .before .before .before .before .before in
+    let l = c .before .before .before .loop in
     let small = turn-small (a .args .text .now) (a .args .case) (l .to .at) (l .to .case) (l .i) (l .inv) in
-    let p = c .before .place-of .ensures in
-    (p .1 _ (a .pre .1 _ (p .0)), omega (arith, a .pre .2))
+    (c .row-of .ensures, omega (arith, a .pre .0))
 
 loop-again : tie.Need-loop-again Inv μ
 loop-again c =
-    let a = c .before .before .before .before .before .before .before in
-    let l = c .before .before .before .before .before .loop in
+    let a = c .before .before .before .before .before .before in
+    let l = c .before .before .before .before .loop in
     turn-next (a .args .text .now) (a .args .case) (l .to .at) (l .to .case) (l .i) (l .inv)
-    (c .before .before .before .before .loop-test .taken)
+    (c .before .before .before .loop-test .taken)
     (c .past .result .at)
     (c .past .ensures .0)
     (c .past .result .case)
@@ -51,9 +50,7 @@ room-for-spec =
     μ
     (λ c. turn-starts (c .before .args .text .now) (c .before .args .case))
     (λ c. search needs)
-    place-of-requires
-    (λ c. omega (arith, c .place-of .ensures .0))
-    (λ c. omega (arith, c .place-of .ensures .0))
+    row-of-requires
     past-requires
     (λ c. search needs)
     (λ c. search needs)
