@@ -8,6 +8,7 @@
  */
 
 #include "plain.h"
+#include "small.h"
 
 #include <inttypes.h>
 #include <stdio.h>

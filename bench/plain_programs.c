@@ -18,6 +18,7 @@
 #define _POSIX_C_SOURCE 200809L
 
 #include "plain.h"
+#include "small.h"
 
 #include <errno.h>
 #include <signal.h>
