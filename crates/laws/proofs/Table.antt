@@ -1,5 +1,4 @@
--- A table that is a tabulated rule, which antt computes, has the rule's value at each place: the proof of a table
--- holds no copy of it. Assumes nothing.
+-- A rule listed, which antt computes, has the rule's value at each place; so two rules with the same list agree. Assumes nothing.
 use mathlib.Core.Path.{_≡_, _∙_, ap, sym}
 use mathlib.Core.List.{List, [], _∷_}
 use Prim.Native.Nat.{ℕ, zero, suc, _+_, _<_}

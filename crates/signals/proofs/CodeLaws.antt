@@ -1,17 +1,21 @@
--- What holds of every byte, and of every signal: each by one test that antt computes over all of them. Assumes nothing.
+-- What holds of every byte, and of every signal, from tests that antt computes over all of them; and the search of the rows. Assumes
+-- nothing.
 use mathlib.Core.Path.{_≡_, refl, ap, sym, _∙_}
 use mathlib.Core.Bool.{Bool, true, false, not, _&&_, Bool·beq}
+use mathlib.Core.List.{List}
 use Prim.Native.Nat.{ℕ, zero, suc, _+_, _≤_, _<_}
 use native.Mathlib.Omega.{arith}
 use lib.Dec.{T, eqb, leb, ltb, leb→le, eqb→eq}
 use borrow.Author.Tests.{ltb-true, leb-true, leb-false}
 use lib.Count.{ones}
+use lib.ListN.{getD}
 use Rattle.laws.specs.Choice.{if_then_else_}
 use Rattle.laws.proofs.Below.{at-below, agree-below, both-left, both-right}
 use Rattle.laws.proofs.Table.{same-table}
 use Rattle.signals.specs.Units.{onesOf, intactOf}
 use Rattle.signals.specs.Meaning.{meaningOf, trafficOf, wordNo}
-use Rattle.signals.specs.Rows.{rowOf}
+use Rattle.signals.specs.declared.Row.{Row}
+use Rattle.signals.specs.Rows.{row, rowOf, Rows}
 
 beq→eq : (a b : Bool) → T (Bool·beq a b) → a ≡ b
 beq→eq true true t = refl
@@ -94,12 +98,41 @@ search-at w byte e n h =
     let on : (rowOf n .0 ≡ w → ⊥) → meaningOf w ≡ suc n → ⊥ = λ other last. other (row-word n low ∙ ap wordNo (sym last) ∙ word-of-meaning w byte e) in
     (low, hit, λ other. omega (arith, on other))
 
--- a mutilated word has no meaning; the search for an intact one starts at the first row
+-- a mutilated word has no meaning
 pub no-meaning : (w : ℕ) → w < 256 → intactOf w ≡ false → meaningOf w ≡ 0
 no-meaning w byte e = omega (arith, leb-false 1 (meaningOf w) (sym (intact-means w byte) ∙ e))
 
-pub search-starts : (w : ℕ) → w < 256 → intactOf w ≡ true → 0 < meaningOf w
-search-starts w byte e = leb-true 1 (meaningOf w) (sym (intact-means w byte) ∙ e)
+-- what is known while the code searches a table of the rows for the word w, at the place n
+pub record Searching (w n : ℕ) : Type 0 where
+  pub byte : w < 256
+  pub intact : intactOf w ≡ true
+  pub before : n < meaningOf w
+
+pub search-starts : (w : ℕ) → w < 256 → intactOf w ≡ true → Searching w 0
+search-starts w byte e = record { byte = byte; intact = e; before = leb-true 1 (meaningOf w) (sym (intact-means w byte) ∙ e) }
+
+module _ {w n : ℕ} (s : Searching w n) where
+  searched : Searched w n
+  searched = search-at w (s .byte) (s .intact) n (s .before)
+
+  pub search-in : n < 35
+  search-in = searched .0
+
+  module _ (l : List Row) (rows : Rows l) where
+    pub search-row : getD l n (row 0 0 0) ≡ rowOf n
+    search-row = rows n search-in
+
+    pub search-on : (getD l n (row 0 0 0) .0 ≡ w → ⊥) → Searching w (n + 1)
+    search-on other =
+        let next = searched .2 (λ here. other (ap (λ (r : Row). r .0) search-row ∙ here)) in
+        record { byte = s .byte; intact = s .intact; before = omega (arith, next) }
+
+    module _ (here : getD l n (row 0 0 0) .0 ≡ w) where
+      pub search-word : rowOf n .0 ≡ w
+      search-word = sym (ap (λ (r : Row). r .0) search-row) ∙ here
+
+      pub search-hit : meaningOf w ≡ n + 1
+      search-hit = omega (arith, searched .1 search-word)
 
 -- below 128 the language's count of ones is the sum of the seven units  R-014
 pub ones-agree : (w : ℕ) → w < 128 → ones w ≡ onesOf w
