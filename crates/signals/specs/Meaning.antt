@@ -57,6 +57,13 @@ cs2 = wordNo 32
 abbrev pub cs3 : ℕ
 cs3 = wordNo 14
 
+-- 001, table 2: CS4 has the word of G and CS5 that of H (02, T-05)  R-196
+abbrev pub cs4 : ℕ
+cs4 = wordNo 7
+
+abbrev pub cs5 : ℕ
+cs5 = wordNo 8
+
 -- "The error mark is byte 255 in a list of signals": printing takes it, and a receiver of mode B prints it.  R-036, R-111
 abbrev pub errorMark : ℕ
 errorMark = 255

@@ -16,7 +16,7 @@ pub const LETTERS: u8 = 90;
 
 pub const FIGURES: u8 = 54;
 
-// The service signals (Nos 33 to 35), and the control signals, which share words with L, blank and N.
+// The service signals (Nos 33 to 35), and the control signals, which share words with L, blank, N, G and H.
 pub const ALPHA: u8 = 15;
 
 pub const BETA: u8 = 51;
@@ -28,6 +28,10 @@ pub const CS1: u8 = 101;
 pub const CS2: u8 = 106;
 
 pub const CS3: u8 = 89;
+
+pub const CS4: u8 = 53;
+
+pub const CS5: u8 = 105;
 
 // A signal's word, and the byte that it prints in letters case and in figures case; 0 where it prints none.
 pub struct Row(pub u8, pub u8, pub u8);
