@@ -105,7 +105,8 @@ fn traffic_in(b: Words) -> Words
     prepended(b.0, prepended(b.1, prepended(b.2, mode_a::SILENCE)))
 }
 
-fn is_over(offer: Offer) -> bool
+// Whether over is offered.
+pub fn is_over(offer: Offer) -> bool
     ensures { λ r. ⌜ r ≡ isOver offer ⌝ }
 {
     match offer {
@@ -114,6 +115,7 @@ fn is_over(offer: Offer) -> bool
         Offer::End => false,
         Offer::Nothing => false,
         Offer::Call(_) => false,
+        Offer::Call3(_) => false,
     }
 }
 

@@ -1,5 +1,6 @@
 // Runs one call many times on pseudo-random input and writes a check-sum of its answers (docs/COST.md, docs/FORMATS.md).
 use filters::Stream;
+use identity::Seven;
 use mode_a::Identity;
 use mode_a::Offer;
 use mode_a::Own;
@@ -544,6 +545,7 @@ fn run_step(times: u64) -> u64 {
         plus: false,
         own: Own {
             four: Identity(0, 0, 0, 0),
+            seven: Seven(0, 0, 0, 0, 0, 0, 0),
         },
         other: Peer::Nobody,
     };

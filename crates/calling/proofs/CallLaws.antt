@@ -13,7 +13,8 @@ use Rattle.mode_a.specs.declared.Mark.{Mark}
 use Rattle.mode_a.specs.declared.Number.{Number}
 use Rattle.mode_a.specs.declared.Called.{Called}
 use Rattle.mode_a.specs.declared.Doing.{Doing}
-use Rattle.mode_a.specs.Calls.{isIdentity, signalsOf, isCallable, callBlock1, callBlock2}
+use Rattle.identity.specs.Table3.{isIdentity}
+use Rattle.mode_a.specs.Calls.{signalsOf, isCallable, callBlock1, callBlock2}
 use Rattle.mode_a.specs.Station.{markOf, marks}
 use Rattle.mode_a.specs.Heard.{Cs, isWords, callOf}
 use Rattle.mode_a.specs.Rows.{callsOn, calling}

@@ -1,10 +1,10 @@
-// What Stand-by and Calling do with what they hear (02, T-02; 001, 3.5). Which kind of burst it is, is told by `table`, and what the
-// place carries by `carried`.
+// What Stand-by and Calling do with what they hear (02, T-02 and T-05; 001, 3.5). Which kind of burst it is, is told by `table`, what the
+// place carries by `carried`, and what Stand-by hears of a three-block call by `calling3`.
 ghost use mathlib.Core.Path.{_≡_};
 ghost use Rattle.laws.specs.Choice.{if_then_else_};
 ghost use Rattle.mode_a.specs.Calls.{isCallable, nextBlock};
 ghost use Rattle.mode_a.specs.Station.{marks};
-ghost use Rattle.mode_a.specs.Heard.{Cs, callOf};
+ghost use Rattle.mode_a.specs.Heard.{Cs, callOf, call3Of};
 ghost use Rattle.mode_a.specs.Rows.{bothHeard, standBy, callsOn, calling};
 ghost use Rattle.carried.specs.Carried.{waitingIn, calledIn};
 use mode_a::Called;
@@ -13,6 +13,7 @@ use mode_a::Identity;
 use mode_a::Mark;
 use mode_a::Number;
 use mode_a::Own;
+use mode_a::Peer;
 use mode_a::Place;
 use mode_a::Station;
 use mode_a::Waiting;
@@ -62,9 +63,9 @@ fn both_heard(before: Mark, now: Mark) -> bool
     }
 }
 
-// Stand-by that hears a burst: it answers a call, or keeps which of its own call blocks this is.
+// Stand-by that hears a burst: it answers a call to either own identity, or keeps which of its own call blocks this is.
 pub fn listening(place: Place, own: Own, burst: Words) -> Doing
-    ensures { λ r. ⌜ r ≡ standBy (waitingIn place) (callOf (own .four) burst) ⌝ }
+    ensures { λ r. ⌜ r ≡ standBy (waitingIn place) (callOf (own .four) burst) (call3Of (own .seven) burst) ⌝ }
 {
     let four = own.four;
     let w = carried::waiting_in(place);
@@ -73,9 +74,16 @@ pub fn listening(place: Place, own: Own, burst: Words) -> Doing
     if both_heard(before, heard) {
         return Doing::Answers;
     }
+    let seven = own.seven;
+    let before3 = w.heard3;
+    let heard3 = calling3::call_of(seven, burst);
+    if calling3::all_heard(before3, heard3) {
+        return Doing::Answers3;
+    }
     Doing::Listens(Waiting {
         wait: w.wait,
         heard: heard,
+        heard3: calling3::heard_then(before3, heard3),
     })
 }
 
@@ -134,7 +142,7 @@ pub fn called(place: Place, number: Number) -> Doing
     let to = c.to;
     let last = c.last;
     if marks(last, number) {
-        return Doing::Reaches(to, number);
+        return Doing::Reaches(Peer::Four(to), number);
     }
     calls_on(place, number.mark())
 }

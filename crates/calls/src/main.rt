@@ -1,5 +1,6 @@
 // One public call a record, so that rooms, cases, lengths and receivers can be tried that no filter reaches (docs/FORMATS.md).
 use filters::Stream;
+use identity::Seven;
 use mode_a::Identity;
 use mode_a::Station;
 use mode_a::Stood;
@@ -152,7 +153,7 @@ fn put_slot(line: &mut [u8], slot: Slot) -> usize {
     }
 }
 
-fn four_bytes(head: &[u8; 10]) -> usize {
+fn four_bytes(head: &[u8; 11]) -> usize {
     two_bytes(head[2], head[3]) * 65536 + two_bytes(head[0], head[1])
 }
 
@@ -170,7 +171,7 @@ fn phasing_of(byte: u8) -> Phasing {
 }
 
 // The receiver of a record of kind R. The kind does not stand in the head: byte 1 of the record stands at 0.
-fn receiver_of(head: &[u8; 10]) -> Receiver {
+fn receiver_of(head: &[u8; 11]) -> Receiver {
     if head[0] % 2 == 0 {
         return Receiver {
             hearing: Hearing::Searching(head[1], phasing_of(head[2])),
@@ -262,7 +263,7 @@ fn put_heard(line: &mut [u8], heard: Heard) -> usize {
 }
 
 // A call of kind R.
-fn put_received(line: &mut [u8], head: &[u8; 10]) -> usize {
+fn put_received(line: &mut [u8], head: &[u8; 11]) -> usize {
     let received = receiving::receive(receiver_of(head), head[9]);
     match received {
         Received::Done(heard) => put_heard(line, heard),
@@ -270,28 +271,47 @@ fn put_received(line: &mut [u8], head: &[u8; 10]) -> usize {
     }
 }
 
-// A call of kind I.
-fn put_stood(line: &mut [u8], head: &[u8; 10]) -> usize {
-    let stood = Station::standing_by(Identity(head[0], head[1], head[2], head[3]));
+// The answer to a call of kind I or J.
+fn put_stood(line: &mut [u8], stood: Stood) -> usize {
     match stood {
         Stood::By(_) => numbers::put_all(line, 0, b"ok"),
         Stood::BadIdentity(index) => filters::put_refusal(line, 0, 8, index as u64),
     }
 }
 
+fn standing(head: &[u8; 11]) -> Stood {
+    Station::standing_by(Identity(head[0], head[1], head[2], head[3]))
+}
+
+fn standing_both(head: &[u8; 11]) -> Stood {
+    Station::standing_by_both(
+        Identity(head[0], head[1], head[2], head[3]),
+        Seven(
+            head[4],
+            head[5],
+            head[6],
+            head[7],
+            head[8],
+            head[9],
+            head[10],
+        ),
+    )
+}
+
 // A call of another kind.
-fn put_other(line: &mut [u8], kind: u8, head: &[u8; 10], list: &[u8]) -> usize {
+fn put_other(line: &mut [u8], kind: u8, head: &[u8; 11], list: &[u8]) -> usize {
     match kind {
         b'S' => put_slot(line, sending::slot(list, four_bytes(head))),
         b'M' => put_meaning(line, head[0]),
-        b'I' => put_stood(line, head),
+        b'I' => put_stood(line, standing(head)),
+        b'J' => put_stood(line, standing_both(head)),
         _ => put_received(line, head),
     }
 }
 
 // The bytes between a record's kind and its list; 0 where there is no such kind.
 fn head_length(kind: u8) -> usize
-    ensures { λ r. ⌜ r < 11 ⌝ }
+    ensures { λ r. ⌜ r < 12 ⌝ }
 {
     match kind {
         b'E' | b'P' => 5,
@@ -299,12 +319,13 @@ fn head_length(kind: u8) -> usize
         b'M' => 1,
         b'R' => 10,
         b'I' => 4,
+        b'J' => 11,
         _ => 0,
     }
 }
 
 // The room that a record asks for.
-fn size_in(kind: u8, head: &[u8; 10]) -> usize {
+fn size_in(kind: u8, head: &[u8; 11]) -> usize {
     match kind {
         b'E' | b'P' => two_bytes(head[1], head[2]),
         _ => 0,
@@ -312,7 +333,7 @@ fn size_in(kind: u8, head: &[u8; 10]) -> usize {
 }
 
 // The length of a record's list.
-fn length_in(kind: u8, head: &[u8; 10]) -> usize
+fn length_in(kind: u8, head: &[u8; 11]) -> usize
     ensures { λ r. ⌜ r < 65536 ⌝ }
 {
     match kind {
@@ -322,7 +343,7 @@ fn length_in(kind: u8, head: &[u8; 10]) -> usize
     }
 }
 
-fn answer(stream: Stream, output: &mut [u8], kind: u8, head: &[u8; 10], list: &[u8]) -> Stream {
+fn answer(stream: Stream, output: &mut [u8], kind: u8, head: &[u8; 11], list: &[u8]) -> Stream {
     match kind {
         b'E' | b'P' => {
             let mut room = [0u8; 8192];
@@ -346,12 +367,12 @@ fn answer(stream: Stream, output: &mut [u8], kind: u8, head: &[u8; 10], list: &[
 }
 
 // The bytes of a record, its kind and its list with it.
-fn bytes_in(kind: u8, head: &[u8; 10]) -> usize {
+fn bytes_in(kind: u8, head: &[u8; 11]) -> usize {
     1 + head_length(kind) + length_in(kind, head)
 }
 
 // Reads the list and answers.
-fn listed(stream: Stream, input: &mut [u8], output: &mut [u8], kind: u8, head: &[u8; 10]) -> Came {
+fn listed(stream: Stream, input: &mut [u8], output: &mut [u8], kind: u8, head: &[u8; 11]) -> Came {
     let length = length_in(kind, head);
     if 8192 < size_in(kind, head) {
         return none(stream, End::Room);
@@ -379,7 +400,7 @@ fn headed(stream: Stream, input: &mut [u8], output: &mut [u8], kind: u8) -> Came
     if needed == 0 {
         return none(stream, End::NoKind);
     }
-    let mut head = [0u8; 10];
+    let mut head = [0u8; 11];
     let read = stream.record(input, output, &mut head, needed);
     let after = read.stream;
     if read.count != needed {

@@ -3,9 +3,11 @@
 --     Text       the text path
 --     ModeA      one station of mode A
 --     ModeB      the sender of mode B
+--     Sums       check-sums, of 001's example and its figure 3
 --     Examples   all of them
 pub mod Code
 pub mod Text
 pub mod ModeA
 pub mod ModeB
+pub mod Sums
 pub mod Examples

@@ -12,7 +12,7 @@ use Rattle.mode_a.specs.declared.Number.{Number}
 use Rattle.mode_a.specs.declared.Number.the-variants.{One, Two}
 use Rattle.mode_a.specs.declared.Words.{Words}
 use Rattle.mode_a.specs.declared.Place.{Place}
-use Rattle.mode_a.specs.declared.Place.the-variants.{Sending, Turning, Opening, Ending, Receiving, Asking, StandBy, Lost, Calling}
+use Rattle.mode_a.specs.declared.Place.the-variants.{Sending, Turning, Opening, Ending, Receiving, Asking, StandBy, Lost, Calling, Calling3, Identifying, Answering}
 use Rattle.mode_a.specs.declared.Peer.the-variants.{Nobody}
 use Rattle.mode_a.specs.declared.Offer.{Offer}
 use Rattle.mode_a.specs.declared.Station.{Station}
@@ -52,6 +52,9 @@ holding Asking n b = false
 holding (StandBy w) n b = false
 holding Lost n b = false
 holding (Calling c) n b = false
+holding (Calling3 c) n b = false
+holding (Identifying i) n b = false
+holding (Answering g) n b = false
 
 -- the step is not refused; it sends these, holds the block under the number, and has the count
 does : Words → Words → Number → Words → ℕ → Bool

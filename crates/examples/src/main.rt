@@ -1,5 +1,6 @@
-// Runs 01's worked examples that are not proved, a byte that has no signal, a call of two stations, and the limits of printing and of mode B, and writes what each gives.
+// Runs 01's worked examples that are not proved, a byte that has no signal, two calls of two stations, and the limits of printing and of mode B, and writes what each gives.
 use filters::Stream;
+use identity::Seven;
 use mode_a::Identity;
 use mode_a::Number;
 use mode_a::Offer;
@@ -103,6 +104,9 @@ fn put_place(line: &mut [u8], at: usize, place: Place) -> usize {
         Place::StandBy(_) => numbers::put_all(line, at, b"Stand-by"),
         Place::Lost => numbers::put_all(line, at, b"Lost"),
         Place::Calling(_) => numbers::put_all(line, at, b"Calling"),
+        Place::Calling3(_) => numbers::put_all(line, at, b"Calling"),
+        Place::Identifying(_) => numbers::put_all(line, at, b"Identifying"),
+        Place::Answering(_) => numbers::put_all(line, at, b"Answering"),
         _ => numbers::put_all(line, at, b"elsewhere"),
     }
 }
@@ -139,6 +143,7 @@ fn repeated(count: u8) -> Station {
         plus: false,
         own: Own {
             four: Identity(0, 0, 0, 0),
+            seven: Seven(0, 0, 0, 0, 0, 0, 0),
         },
         other: Peer::Nobody,
     }
@@ -187,9 +192,33 @@ fn identities(line: &mut [u8], at: usize) -> usize {
     )
 }
 
+fn both_line(line: &mut [u8], at: usize, about: &[u8], seven: Seven) -> usize {
+    let mut to = numbers::put_all(line, at, about);
+    to = put_stood(line, to, Station::standing_by_both(VXQZ, seven));
+    numbers::put(line, to, 10)
+}
+
+fn both_identities(line: &mut [u8], at: usize) -> usize {
+    let to = both_line(line, at, b"and as P E A R D B Y: ", PEARDBY);
+    both_line(
+        line,
+        to,
+        b"and as P E A R D B J: ",
+        Seven(45, 86, 71, 85, 83, 114, 23),
+    )
+}
+
 fn call_line(line: &mut [u8], at: usize, about: &[u8], count: u8, identity: Identity) -> usize {
     let stepped = station::step(repeated(count), mode_a::SILENCE, Offer::Call(identity));
     let mut to = numbers::put_all(line, at, about);
+    to = put_stepped(line, to, stepped);
+    numbers::put(line, to, 10)
+}
+
+// The own seven signals of this station are zeros: none of the called one is bad, and the first of its own is.
+fn call_3_line(line: &mut [u8], at: usize) -> usize {
+    let stepped = station::step(repeated(32), mode_a::SILENCE, Offer::Call3(PEARDBY));
+    let mut to = numbers::put_all(line, at, b"count 32 and a call to P E A R D B Y: ");
     to = put_stepped(line, to, stepped);
     numbers::put(line, to, 10)
 }
@@ -240,10 +269,20 @@ fn put_answer(line: &mut [u8], at: usize, reply: Reply) -> usize {
     put_place(line, to, place)
 }
 
+// Whether the burst is damaged, and whether text is offered.
+fn put_done(line: &mut [u8], at: usize, offer: Offer, damaged: bool) -> usize {
+    if damaged {
+        return numbers::put_all(line, at, b", the burst damaged: ");
+    }
+    match offer {
+        Offer::Text(_) => numbers::put_all(line, at, b", TEA offered: "),
+        _ => numbers::put_all(line, at, b": "),
+    }
+}
+
 // A line: what both stations answer.
-fn put_both(line: &mut [u8], at: usize, about: &[u8], one: Reply, two: Reply) -> usize {
-    let mut to = numbers::put_all(line, at, about);
-    to = put_answer(line, to, one);
+fn put_both(line: &mut [u8], at: usize, one: Reply, two: Reply) -> usize {
+    let mut to = put_answer(line, at, one);
     to = numbers::put_all(line, to, b"; ");
     to = put_answer(line, to, two);
     numbers::put(line, to, 10)
@@ -257,7 +296,7 @@ fn heard(burst: Words, damaged: bool) -> Words {
 }
 
 // The caller hears what is on the way and is offered something, and the other hears its burst.
-fn exchange(line: &mut [u8], pair: Pair, about: &[u8], offer: Offer, damaged: bool) -> Pair {
+fn exchange(line: &mut [u8], pair: Pair, offer: Offer, damaged: bool) -> Pair {
     let caller = pair.caller;
     let called = pair.called;
     let burst = pair.burst;
@@ -267,65 +306,148 @@ fn exchange(line: &mut [u8], pair: Pair, about: &[u8], offer: Offer, damaged: bo
     let caller_after = one.station;
     let called_after = two.station;
     let answered = two.sent;
+    let to = put_done(line, pair.at, offer, damaged);
     Pair {
         caller: caller_after,
         called: called_after,
         burst: answered,
-        at: put_both(line, pair.at, about, one, two),
+        at: put_both(line, to, one, two),
     }
 }
 
-fn standing(identity: Identity) -> Station {
-    match Station::standing_by(identity) {
+// A call as an example: the number past that of its last exchange, the exchanges at which the burst is damaged (bit n for number n), and
+// the one at which TEA is offered.
+pub struct Told {
+    pub end: u8,
+    pub damaged: u16,
+    pub tea: u8,
+}
+
+fn offer_at(number: u8, call: Offer, tea: u8) -> Offer {
+    if number == 1 {
+        return call;
+    }
+    if number == tea {
+        return Offer::Text(Words(116, 86, 71));
+    }
+    Offer::Nothing
+}
+
+fn numbered(line: &mut [u8], pair: Pair, about: &[u8], number: u8) -> Pair {
+    let caller = pair.caller;
+    let called = pair.called;
+    let burst = pair.burst;
+    let to = numbers::put_all(line, pair.at, about);
+    Pair {
+        caller,
+        called,
+        burst,
+        at: numbers::put_number(line, to, number),
+    }
+}
+
+// The exchanges of a call, in order.
+fn exchanges(line: &mut [u8], first: Pair, about: &[u8], call: Offer, told: Told) -> Pair {
+    let mut pair = first;
+    let mut number: u8 = 1;
+    let mut damaged = told.damaged;
+    let end = told.end;
+    while number < end {
+        damaged = damaged / 2;
+        pair = numbered(line, pair, about, number);
+        pair = exchange(
+            line,
+            pair,
+            offer_at(number, call, told.tea),
+            damaged % 2 == 1,
+        );
+        number += 1;
+    }
+    pair
+}
+
+fn standing(four: Identity) -> Station {
+    match Station::standing_by(four) {
         Stood::By(s) => s,
         // not reached: every signal of the two is of table 3a
         Stood::BadIdentity(_) => Station::fresh_slave(),
     }
 }
 
-// The call blocks in turn, the second of them damaged.
-fn called(line: &mut [u8], at: usize) -> Pair {
+// A call of two stations at Stand-by, its second burst damaged, as far as the confirmation of the first block.
+fn worked_call(line: &mut [u8], at: usize) -> usize {
     let pair = Pair {
         caller: standing(DOCK),
         called: standing(VXQZ),
         burst: mode_a::SILENCE,
         at,
     };
-    let one = exchange(line, pair, b"call, exchange 1: ", Offer::Call(VXQZ), false);
-    exchange(
-        line,
-        one,
-        b"call, exchange 2, the burst damaged: ",
-        Offer::Nothing,
-        true,
-    )
-}
-
-// Both of them once more, which are answered.
-fn answered(line: &mut [u8], at: usize) -> Pair {
-    let pair = called(line, at);
-    let one = exchange(line, pair, b"call, exchange 3: ", Offer::Nothing, false);
-    exchange(line, one, b"call, exchange 4: ", Offer::Nothing, false)
-}
-
-// After two CS1 the caller goes on to traffic.
-fn connected(line: &mut [u8], at: usize) -> Pair {
-    let pair = answered(line, at);
-    let one = exchange(line, pair, b"call, exchange 5: ", Offer::Nothing, false);
-    exchange(
-        line,
-        one,
-        b"call, exchange 6, TEA offered: ",
-        Offer::Text(Words(116, 86, 71)),
-        false,
-    )
-}
-
-// A call of two stations at Stand-by, as far as the confirmation of the first block.
-fn worked_call(line: &mut [u8], at: usize) -> usize {
-    let pair = connected(line, at);
-    let last = exchange(line, pair, b"call, exchange 7: ", Offer::Nothing, false);
+    let told = Told {
+        end: 8,
+        damaged: 0b100,
+        tea: 6,
+    };
+    let last = exchanges(line, pair, b"call, exchange ", Offer::Call(VXQZ), told);
     last.at
+}
+
+// The identities of 001's example (2.5) and of its figure 3.
+const PEARDBY: Seven = Seven(45, 86, 71, 85, 83, 114, 43);
+
+const KQVZRSE: Seven = Seven(30, 46, 60, 99, 85, 75, 86);
+
+fn standing_both(four: Identity, seven: Seven) -> Station {
+    match Station::standing_by_both(four, seven) {
+        Stood::By(s) => s,
+        // not reached: every signal of these is of table 3a
+        Stood::BadIdentity(_) => Station::fresh_slave(),
+    }
+}
+
+fn put_seven(line: &mut [u8], at: usize, seven: Seven) -> usize {
+    let mut to = put_burst(line, at, Words(seven.0, seven.1, seven.2));
+    to = numbers::put(line, to, 32);
+    to = put_burst(line, to, Words(seven.3, seven.4, seven.5));
+    to = numbers::put(line, to, 32);
+    numbers::put_number(line, to, seven.6)
+}
+
+fn put_known(line: &mut [u8], at: usize, s: Station) -> usize {
+    let other = s.other;
+    match other {
+        Peer::Known(seven) => put_seven(line, at, seven),
+        _ => numbers::put_all(line, at, b"nobody told"),
+    }
+}
+
+// A call of seven signals, its first burst and that of the second identification block damaged, as far as the first block, and who is then
+// at the other end of each.
+fn worked_identification(line: &mut [u8], at: usize) -> usize {
+    let pair = Pair {
+        caller: standing_both(DOCK, KQVZRSE),
+        called: standing_both(VXQZ, PEARDBY),
+        burst: mode_a::SILENCE,
+        at,
+    };
+    let told = Told {
+        end: 11,
+        damaged: 0b100_0010,
+        tea: 10,
+    };
+    let last = exchanges(
+        line,
+        pair,
+        b"call of seven, exchange ",
+        Offer::Call3(PEARDBY),
+        told,
+    );
+    let caller = last.caller;
+    let called = last.called;
+    let mut to = numbers::put_all(line, last.at, b"at the other end: ");
+    to = put_known(line, to, caller);
+    to = numbers::put_all(line, to, b"; ");
+    to = put_known(line, to, called);
+    numbers::put(line, to, 10)
 }
 
 fn put_slots(line: &mut [u8], at: usize, slots: usize) -> usize {
@@ -389,20 +511,23 @@ fn main() {
         return;
     }
     // all lines, which come to less
-    let mut lines = [0u8; 2048];
+    let mut lines = [0u8; 3072];
     let mut at = small_letter(&mut lines, 0);
     at = text(&mut lines, at);
     at = encode_limits(&mut lines, at);
     at = print_limits(&mut lines, at);
     at = count_31(&mut lines, at);
     at = identities(&mut lines, at);
+    at = both_identities(&mut lines, at);
     at = refused_calls(&mut lines, at);
+    at = call_3_line(&mut lines, at);
     at = worked_call(&mut lines, at);
+    at = worked_identification(&mut lines, at);
     at = lengths(&mut lines, at);
     at = longer(&mut lines, at);
     at = send_limits(&mut lines, at);
     at = search_run_4(&mut lines, at);
-    let mut output = [0u8; 2048];
+    let mut output = [0u8; 3072];
     Stream::new()
         .put_line(&mut output, &lines, at)
         .finish(&output, b"examples");

@@ -36,7 +36,7 @@ pub fn put_flag(line: &mut [u8], at: usize, flag: bool) -> usize {
 
 // The place's number in a record.
 pub fn place_no(place: Place) -> u64
-    ensures { λ r. ⌜ r < 9 ⌝ }
+    ensures { λ r. ⌜ r < 12 ⌝ }
 {
     match place {
         Place::Sending(_) => 0,
@@ -48,6 +48,9 @@ pub fn place_no(place: Place) -> u64
         Place::StandBy(_) => 6,
         Place::Lost => 7,
         Place::Calling(_) => 8,
+        Place::Calling3(_) => 9,
+        Place::Identifying(_) => 10,
+        Place::Answering(_) => 11,
     }
 }
 
@@ -62,6 +65,9 @@ pub fn put_place(line: &mut [u8], at: usize, place: Place) -> usize {
         Place::StandBy(_) => numbers::put_all(line, at, b"standby"),
         Place::Lost => numbers::put_all(line, at, b"lost"),
         Place::Calling(_) => numbers::put_all(line, at, b"calling"),
+        Place::Calling3(_) => numbers::put_all(line, at, b"calling3"),
+        Place::Identifying(_) => numbers::put_all(line, at, b"identifying"),
+        Place::Answering(_) => numbers::put_all(line, at, b"answering"),
     }
 }
 

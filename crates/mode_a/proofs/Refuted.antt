@@ -15,6 +15,11 @@
 --     no-call-taken-elsewhere    a call reported as taken where a block is
 --     no-call-that-prints        a call that is placed, and prints
 --     no-lost-caller             Calling that goes to Lost where its 128 call bursts are sent
+--     no-own-unjudged            a call of seven signals placed by a station without an identity of seven
+--     no-own-index-from-0        a signal of the own seven told by its index there, and not behind the seven called
+--     no-own-first               the own seven judged before those called
+--     no-order-4-8-of-seven      a bad station told before a bad own identity
+--     no-call3-taken-elsewhere   a call of seven signals reported as taken where a block is
 -- Wrong fresh stations and first bursts, each by one field or word that is not as 01 has it, whatever the others are.
 --     no-fresh-master-asking     a fresh master at Asking
 --     no-fresh-master-slave      a fresh master that is a slave
@@ -22,6 +27,8 @@
 --     no-fresh-slave-master      a fresh slave that is a master
 --     no-standing-by-with-w      a station at Stand-by with W, which is not in table 3a, in its identity
 --     no-standing-by-that-waits  one that has to wait before it may call
+--     no-standing-by-both-with-w one with W among its seven signals
+--     no-seventh-index-6         the seventh of the seven told by its index there, and not behind the four
 --     no-first-burst-cs2         a first burst that asks for block 2
 --     no-first-burst-thrice      CS1 three times: "a single signal is followed by two zero words"
 -- Assumes nothing.
@@ -36,7 +43,7 @@ use Rattle.mode_a.specs.declared.Role.the-variants.{Master, Slave}
 use Rattle.mode_a.specs.declared.Number.the-variants.{One, Two}
 use Rattle.mode_a.specs.declared.Words.{Words}
 use Rattle.mode_a.specs.declared.Place.{Place}
-use Rattle.mode_a.specs.declared.Place.the-variants.{Sending, Turning, Opening, Ending, Receiving, Asking, StandBy, Lost, Calling}
+use Rattle.mode_a.specs.declared.Place.the-variants.{Sending, Turning, Opening, Ending, Receiving, Asking, StandBy, Lost, Calling, Calling3, Identifying, Answering}
 use Rattle.mode_a.specs.declared.Offer.{Offer}
 use Rattle.mode_a.specs.declared.Station.{Station}
 use Rattle.mode_a.specs.declared.Reply.{Reply}
@@ -45,9 +52,12 @@ use Rattle.mode_a.specs.declared.Peer.the-variants.{Nobody}
 use Rattle.mode_a.specs.declared.Mark.{Mark}
 use Rattle.mode_a.specs.declared.Identity.{Identity}
 use Rattle.mode_a.specs.declared.Stood.{Stood}
-use Rattle.mode_a.specs.Calls.{isIdentity, isCallable}
-use Rattle.mode_a.specs.Station.{standing, StandsBy, words, single, silence, RQ×3, asksFor, noIdentity, resting, freshMaster, freshSlave, firstBurst}
-use Rattle.mode_a.specs.Heard.{firstOf, mayHold, isBlock, isWords, callOf, heardOf}
+use Rattle.identity.specs.declared.Seven.{Seven}
+use Rattle.identity.specs.Table3.{isIdentity}
+use Rattle.mode_a.specs.Calls.{isCallable}
+use Rattle.mode_a.specs.Station.{standing, standingBoth, StandsBy, StandsByBoth, words, single, silence, RQ×3, asksFor, noIdentity, resting, freshMaster, freshSlave, firstBurst}
+use Rattle.identity.specs.Sums.{isCallable7}
+use Rattle.mode_a.specs.Heard.{call3Of, firstOf, mayHold, isBlock, isWords, callOf, heardOf}
 use Rattle.mode_a.specs.Over.{listened}
 use Rattle.mode_a.specs.Step.{trafficIn, done, sound, stepping, saidStepped, Steps}
 
@@ -160,11 +170,11 @@ no-call-unjudged r p = let z : _≡_ {A = ℕ} 0 8 = ap numberIn (p .0) in omega
 
 -- Sending that hears the other number's control signal: βββ goes out, and the call stays with the operator
 pub no-call-taken-elsewhere : (r : Reply) → r .taken ≡ true → Steps (slaveAt (Sending (record { number = One; block = tea })) 0) (single cs2) (Offer.Call vxqz) (Stepped.Done r) → ⊥
-unfolding stepping sound heardOf callOf isIdentity isCallable firstOf mayHold trafficOf meaningOf isBlock isWords firstNot done
+unfolding stepping sound heardOf callOf call3Of isIdentity isCallable isCallable7 firstOf mayHold trafficOf meaningOf isBlock isWords firstNot done
 no-call-taken-elsewhere r e p = apart (sym e ∙ ap takenIn (p .0))
 
 pub no-call-that-prints : (r : Reply) → r .printed ≡ words 60 0 0 → Steps (slaveAt (resting 0) 0) silence (Offer.Call vxqz) (Stepped.Done r) → ⊥
-unfolding stepping sound heardOf callOf isIdentity isCallable firstOf mayHold trafficOf meaningOf isBlock isWords firstNot done
+unfolding stepping sound heardOf callOf call3Of isIdentity isCallable isCallable7 firstOf mayHold trafficOf meaningOf isBlock isWords firstNot done
 no-call-that-prints r e p =
     let z : _≡_ {A = ℕ} 60 0 = printed-is (slaveAt (resting 0) 0) silence (Offer.Call vxqz) r p (words 60 0 0) e in omega arith
 
@@ -178,14 +188,54 @@ placeNoIn Asking = 0
 placeNoIn (StandBy w) = 6
 placeNoIn Lost = 7
 placeNoIn (Calling c) = 8
+placeNoIn (Calling3 c) = 9
+placeNoIn (Identifying i) = 10
+placeNoIn (Answering g) = 11
 
 abbrev placeIn : Answer Reply → Place
 placeIn (answered r) = r .station .place
 placeIn (refused n v) = Opening
 
 pub no-lost-caller : (r : Reply) → r .station .place ≡ Lost → Steps (slaveAt (Calling (record { to = vxqz; sent = 128; last = Mark.None })) 0) silence Offer.Nothing (Stepped.Done r) → ⊥
-unfolding stepping sound heardOf callOf isIdentity isCallable firstOf mayHold trafficOf meaningOf isBlock isWords firstNot done
+unfolding stepping sound heardOf callOf call3Of isIdentity isCallable isCallable7 firstOf mayHold trafficOf meaningOf isBlock isWords firstNot done
 no-lost-caller r e p = let z : _≡_ {A = ℕ} 7 6 = ap placeNoIn (sym e ∙ ap placeIn (p .0)) in omega arith
+
+-- P E A R D B Y, and the same with W for Y
+abbrev peardby : Seven
+peardby = record { 0 = 45; 1 = 86; 2 = 71; 3 = 85; 4 = 83; 5 = 114; 6 = 43 }
+
+abbrev peardbw : Seven
+peardbw = record { 0 = 45; 1 = 86; 2 = 71; 3 = 85; 4 = 83; 5 = 114; 6 = 39 }
+
+abbrev indexIn : Answer Reply → ℕ
+indexIn (answered r) = 99
+indexIn (refused n v) = v
+
+-- at Stand-by, of a station whose own seven signals are zeros
+pub no-own-unjudged : (r : Reply) → Steps (slaveAt (resting 0) 0) silence (Offer.Call3 peardby) (Stepped.Done r) → ⊥
+unfolding stepping isIdentity firstNot
+no-own-unjudged r p = let z : _≡_ {A = ℕ} 0 8 = ap numberIn (p .0) in omega arith
+
+pub no-own-index-from-0 : (s : Station) → Steps (slaveAt (resting 0) 0) silence (Offer.Call3 peardby) (Stepped.BadCall 0 s) → ⊥
+unfolding stepping isIdentity firstNot
+no-own-index-from-0 s p = let z : _≡_ {A = ℕ} 0 7 = ap indexIn (p .0) in omega arith
+
+-- both are bad, and W of the called one comes first
+pub no-own-first : (s : Station) → Steps (slaveAt (resting 0) 0) silence (Offer.Call3 peardbw) (Stepped.BadCall 7 s) → ⊥
+unfolding stepping isIdentity firstNot
+no-own-first s p = let z : _≡_ {A = ℕ} 7 6 = ap indexIn (p .0) in omega arith
+
+pub no-order-4-8-of-seven : (s : Station) → Steps (slaveAt Lost 32) silence (Offer.Call3 peardby) (Stepped.BadStation s) → ⊥
+unfolding stepping isIdentity firstNot
+no-order-4-8-of-seven s p = let z : _≡_ {A = ℕ} 4 8 = ap numberIn (p .0) in omega arith
+
+-- Sending that hears the other number's control signal: βββ goes out, and the call stays with the operator
+abbrev peardbyAt : Place → Station
+peardbyAt p = record { role = Slave; place = p; count = 0; case = Letters; plus = false; own = record { four = vxqz; seven = peardby }; other = Nobody }
+
+pub no-call3-taken-elsewhere : (r : Reply) → r .taken ≡ true → Steps (peardbyAt (Sending (record { number = One; block = tea }))) (single cs2) (Offer.Call3 peardby) (Stepped.Done r) → ⊥
+unfolding stepping sound heardOf callOf call3Of isIdentity isCallable isCallable7 firstOf mayHold trafficOf meaningOf isBlock isWords firstNot done
+no-call3-taken-elsewhere r e p = apart (sym e ∙ ap takenIn (p .0))
 
 abbrev stoodIn : Answer Station → ℕ
 stoodIn (answered s) = 0
@@ -205,6 +255,9 @@ waitIn Asking = 0
 waitIn (StandBy w) = w .wait
 waitIn Lost = 0
 waitIn (Calling c) = 0
+waitIn (Calling3 c) = 0
+waitIn (Identifying i) = 0
+waitIn (Answering g) = 0
 
 abbrev stationIn : Answer Station → Station → Station
 stationIn (answered s) t = s
@@ -213,6 +266,18 @@ stationIn (refused n v) t = t
 pub no-standing-by-that-waits : (s : Station) → s .place ≡ resting 128 → StandsBy vxqz (Stood.By s) → ⊥
 unfolding standing isIdentity firstNot
 no-standing-by-that-waits s e p = let z : _≡_ {A = ℕ} 128 0 = ap waitIn (sym e ∙ ap (λ (a : Answer Station). stationIn a s .place) p) in omega arith
+
+pub no-standing-by-both-with-w : (s : Station) → StandsByBoth vxqz peardbw (Stood.By s) → ⊥
+unfolding standingBoth isIdentity firstNot
+no-standing-by-both-with-w s p = let z : _≡_ {A = ℕ} 0 8 = ap stoodIn p in omega arith
+
+abbrev besideIn : Answer Station → ℕ
+besideIn (answered s) = 99
+besideIn (refused n v) = v
+
+pub no-seventh-index-6 : StandsByBoth vxqz peardbw (Stood.BadIdentity 6) → ⊥
+unfolding standingBoth isIdentity firstNot
+no-seventh-index-6 p = let z : _≡_ {A = ℕ} 6 10 = ap besideIn p in omega arith
 
 pub no-fresh-master-asking : (s : Station) → s .place ≡ Asking → s ≡ freshMaster → ⊥
 no-fresh-master-asking s e p = apart cc

@@ -1,4 +1,4 @@
--- No second answer: the promises of `step`, `fresh_master`, `fresh_slave`, `standing_by` and `first_burst`, as their contracts cite them, leave one.
+-- No second answer: the promises of `step`, `fresh_master`, `fresh_slave`, `standing_by`, `standing_by_both` and `first_burst`, as their contracts cite them, leave one.
 -- Assumes nothing.
 use mathlib.Core.Path.{_≡_, refl, ap, ap₂, sym, _∙_}
 use lib.Dec.{eqb}
@@ -12,7 +12,8 @@ use Rattle.mode_a.specs.declared.Reply.{Reply}
 use Rattle.mode_a.specs.declared.Stepped.{Stepped}
 use Rattle.mode_a.specs.declared.Identity.{Identity}
 use Rattle.mode_a.specs.declared.Stood.{Stood}
-use Rattle.mode_a.specs.Station.{freshMaster, freshSlave, firstBurst, saidStood, StandsBy}
+use Rattle.identity.specs.declared.Seven.{Seven}
+use Rattle.mode_a.specs.Station.{freshMaster, freshSlave, firstBurst, saidStood, StandsBy, StandsByBoth}
 use Rattle.mode_a.specs.Step.{saidStepped, handedBack, Steps}
 
 -- the answer, read back from 01's number and value and the station handed back
@@ -51,3 +52,6 @@ stood-back (Stood.BadIdentity n) = refl
 
 pub standing-by-unique : (i : Identity) (r r′ : Stood) → StandsBy i r → StandsBy i r′ → r ≡ r′
 standing-by-unique i r r′ p q = sym (stood-back r) ∙ ap stoodFrom (unique p q) ∙ stood-back r′
+
+pub standing-by-both-unique : (i : Identity) (j : Seven) (r r′ : Stood) → StandsByBoth i j r → StandsByBoth i j r′ → r ≡ r′
+standing-by-both-unique i j r r′ p q = sym (stood-back r) ∙ ap stoodFrom (unique p q) ∙ stood-back r′

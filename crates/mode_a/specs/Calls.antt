@@ -1,45 +1,15 @@
--- 02, T-02: identity signals and call blocks (001, 3.5.2, 3.5.3 and table 3a).  R-175, R-176, R-177, R-178, R-184
+-- 02, T-02 and T-05: call blocks (001, 3.5.2 and 3.5.3). "The identity letters are those of table 3a": `isIdentity`.  R-175 to R-178, R-184, R-199, R-207
 -- Assumes nothing.
-use mathlib.Core.Bool.{Bool, false, _&&_, _||_}
+use mathlib.Core.Bool.{Bool, _&&_}
 use mathlib.Core.List.{List, [], _∷_}
 use Prim.Native.Nat.{ℕ, _%_}
 use lib.Dec.{eqb}
 use Rattle.laws.specs.Choice.{if_then_else_}
-use Rattle.signals.specs.Meaning.{wordNo, rq}
+use Rattle.signals.specs.Meaning.{rq}
+use Rattle.identity.specs.declared.Seven.{Seven}
+use Rattle.identity.specs.Table3.{isIdentity}
 use Rattle.mode_a.specs.declared.Words.{Words}
 use Rattle.mode_a.specs.declared.Identity.{Identity}
-
--- "The identity letters are those of table 3a", in the order of their numbers there, each by its number in table 1  R-176
-abbrev pub table3a : List ℕ
-table3a =
-    wordNo 22  --  0  V
-    ∷ wordNo 24  --  1  X
-    ∷ wordNo 17  --  2  Q
-    ∷ wordNo 11  --  3  K
-    ∷ wordNo 13  --  4  M
-    ∷ wordNo 16  --  5  P
-    ∷ wordNo 3  --  6  C
-    ∷ wordNo 25  --  7  Y
-    ∷ wordNo 6  --  8  F
-    ∷ wordNo 19  --  9  S
-    ∷ wordNo 20  --  10  T
-    ∷ wordNo 2  --  11  B
-    ∷ wordNo 21  --  12  U
-    ∷ wordNo 5  --  13  E
-    ∷ wordNo 15  --  14  O
-    ∷ wordNo 9  --  15  I
-    ∷ wordNo 18  --  16  R
-    ∷ wordNo 26  --  17  Z
-    ∷ wordNo 4  --  18  D
-    ∷ wordNo 1  --  19  A
-    ∷ []
-
-abbrev pub oneOf : ℕ → List ℕ → Bool
-oneOf w [] = false
-oneOf w (x ∷ xs) = eqb w x || oneOf w xs
-
-unfoldable pub isIdentity : ℕ → Bool
-isIdentity w = oneOf w table3a
 
 -- "two-block calls of four identity signals"  R-175
 abbrev pub signalsOf : Identity → List ℕ
@@ -59,3 +29,20 @@ callBlock2 i = record { 0 = i .2; 1 = i .3; 2 = rq }
 -- "sends call blocks 1 and 2 in turn": the block that follows so many of them  R-184
 unfoldable pub nextBlock : Identity → ℕ → Words
 nextBlock i sent = if eqb (sent % 2) 0 then callBlock1 i else callBlock2 i
+
+-- "in the case of a 7-signal call identity": "call block 1" as above  3.5.3, R-199
+abbrev pub call3Block1 : Seven → Words
+call3Block1 i = record { 0 = i .0; 1 = rq; 2 = i .1 }
+
+-- "call block 2": "signal repetition, and the third and fourth identification signals of the called station"
+abbrev pub call3Block2 : Seven → Words
+call3Block2 i = record { 0 = rq; 1 = i .2; 2 = i .3 }
+
+-- "call block 3": "the last three identification signals of the called station"
+abbrev pub call3Block3 : Seven → Words
+call3Block3 i = record { 0 = i .4; 1 = i .5; 2 = i .6 }
+
+-- "sends the call signal until": the block that follows so many of them  3.5.4, R-207
+unfoldable pub nextBlock3 : Seven → ℕ → Words
+nextBlock3 i sent =
+    if eqb (sent % 3) 0 then call3Block1 i else if eqb (sent % 3) 1 then call3Block2 i else call3Block3 i

@@ -1,11 +1,13 @@
--- 01, The station, mode A; 02, T-02, calls (001, 3.3 to 3.7).
---     Calls     identity signals and call blocks
+-- 01, The station, mode A; 02, T-02, calls, and T-05, identification (001, 3.3 to 3.7).
+--     Calls     call blocks, of four signals and of seven
+--     Identification   identification blocks, and what the slave gathers of them
 --     Station   words, numbers, fresh stations, and one at Stand-by
 --     Heard     what the rows ask of a burst
 --     Over      the case of a direction, and when the over is heard
 --     Rows      what each place does with what it hears, a row a place
 --     Step      what is then sent, printed and taken; the repetition count; the refusals
 pub mod Calls
+pub mod Identification
 pub mod Station
 pub mod Heard
 pub mod Over

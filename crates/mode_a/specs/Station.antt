@@ -1,12 +1,12 @@
--- 01, The station: bursts, numbers, fresh stations; 02, T-02: a station at Stand-by.  R-041, R-042, R-043, R-092, R-093, R-094, R-095
+-- 01, The station: bursts, numbers, fresh stations; 02, T-02 and T-05: a station at Stand-by.  R-041, R-042, R-043, R-092, R-093, R-094, R-095
 --
 -- "A station is master or slave, and is at one of these places; the places that send or receive blocks carry their own inner
--- state." "An offer is text (three words), over, end or nothing", or a call (02, T-02).  R-044, R-045, R-046: the types Role, Place and Offer of
+-- state." "An offer is text (three words), over, end or nothing", or a call (02, T-02 and T-05).  R-044, R-045, R-046: the types Role, Place and Offer of
 -- src/lib.rt.
 -- Assumes nothing.
 use mathlib.Core.Path.{_≡_}
 use mathlib.Core.Bool.{Bool, true, false}
-use mathlib.Core.List.{List, [], _∷_}
+use mathlib.Core.List.{List, [], _∷_, _++_}
 use Prim.Native.Nat.{ℕ}
 use lib.Dec.{ltb}
 use Rattle.laws.specs.Choice.{if_then_else_}
@@ -18,6 +18,7 @@ use Rattle.mode_a.specs.declared.Number.{Number}
 use Rattle.mode_a.specs.declared.Number.the-variants.{One, Two}
 use Rattle.mode_a.specs.declared.Words.{Words}
 use Rattle.mode_a.specs.declared.Mark.{Mark}
+use Rattle.mode_a.specs.declared.Succession.{Succession}
 use Rattle.mode_a.specs.declared.Identity.{Identity}
 use Rattle.mode_a.specs.declared.Own.{Own}
 use Rattle.mode_a.specs.declared.Peer.the-variants.{Nobody}
@@ -25,7 +26,10 @@ use Rattle.mode_a.specs.declared.Place.{Place}
 use Rattle.mode_a.specs.declared.Place.the-variants.{Opening, Receiving, StandBy}
 use Rattle.mode_a.specs.declared.Station.{Station}
 use Rattle.mode_a.specs.declared.Stood.{Stood}
-use Rattle.mode_a.specs.Calls.{isIdentity, signalsOf}
+use Rattle.identity.specs.declared.Seven.{Seven}
+use Rattle.identity.specs.Table3.{isIdentity}
+use Rattle.identity.specs.Sums.{signalsOf7}
+use Rattle.mode_a.specs.Calls.{signalsOf}
 
 -- "A burst is three words"  R-041
 abbrev pub words : ℕ → ℕ → ℕ → Words
@@ -75,9 +79,12 @@ marks Mark.None n = false
 marks Mark.One n = same One n
 marks Mark.Two n = same Two n
 
--- a station without an identity  R-180
+-- a station without an identity, of four signals or of seven  R-180, R-201
+abbrev pub noSeven : Seven
+noSeven = record { 0 = 0; 1 = 0; 2 = 0; 3 = 0; 4 = 0; 5 = 0; 6 = 0 }
+
 abbrev pub noIdentity : Own
-noIdentity = record { four = record { 0 = 0; 1 = 0; 2 = 0; 3 = 0 } }
+noIdentity = record { four = record { 0 = 0; 1 = 0; 2 = 0; 3 = 0 }; seven = noSeven }
 
 -- "A fresh master is Opening. A fresh slave is Receiving, awaits 1, and its first burst is CS1. Both start with count 0,
 -- letters case and no + heard."  R-092, R-093, R-094, R-095
@@ -94,21 +101,31 @@ firstBurst = asksFor One
 
 -- 02, T-02: a station at Stand-by with so many steps to wait and none of its own call blocks heard; one that nobody has called yet  R-193
 abbrev pub resting : ℕ → Place
-resting n = StandBy (record { wait = n; heard = Mark.None })
+resting n = StandBy (record { wait = n; heard = Mark.None; heard3 = Succession.None })
 
-abbrev pub freshAt : Identity → Station
+abbrev pub freshAt : Own → Station
 freshAt i =
-    record { role = Slave; place = resting 0; count = 0; case = Letters; plus = false; own = record { four = i }; other = Nobody }
+    record { role = Slave; place = resting 0; count = 0; case = Letters; plus = false; own = i; other = Nobody }
 
 -- "8, an identity signal outside table 3a": the index of the first beside it  R-193
 unfoldable pub standing : Identity → Answer Station
 standing i =
-    if ltb (firstNot isIdentity (signalsOf i)) 4 then refused 8 (firstNot isIdentity (signalsOf i)) else answered (freshAt i)
+    if ltb (firstNot isIdentity (signalsOf i)) 4 then refused 8 (firstNot isIdentity (signalsOf i))
+    else answered (freshAt (record { four = i; seven = noSeven }))
+
+-- "Refusals: 8 also for a self-identity": with both identities, the index over the four signals and then the seven  R-225
+unfoldable pub standingBoth : Identity → Seven → Answer Station
+standingBoth i j =
+    if ltb (firstNot isIdentity (signalsOf i ++ signalsOf7 j)) 11 then refused 8 (firstNot isIdentity (signalsOf i ++ signalsOf7 j))
+    else answered (freshAt (record { four = i; seven = j }))
 
 abbrev pub saidStood : Stood → Answer Station
 saidStood (Stood.By s) = answered s
 saidStood (Stood.BadIdentity n) = refused 8 n
 
--- The promise of `standing_by`: r is the answer for the identity i.
+-- The promise of `standing_by`: r is the answer for the identity i; and of `standing_by_both`, for i and j.
 abbrev pub StandsBy : Identity → Stood → Type 0
 StandsBy i r = saidStood r ≡ standing i
+
+abbrev pub StandsByBoth : Identity → Seven → Stood → Type 0
+StandsByBoth i j r = saidStood r ≡ standingBoth i j

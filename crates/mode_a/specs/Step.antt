@@ -1,36 +1,42 @@
 -- 01, The station: "One step: hear a burst, take an offer, answer with the new station, a burst to send, up to three printed
--- signals, and whether the offer was taken."  R-039, R-040. With calls as 02, T-02 has them.
+-- signals, and whether the offer was taken."  R-039, R-040. With calls as 02, T-02 and T-05 have them.
 -- Assumes nothing.
 use mathlib.Core.Path.{_≡_}
 use mathlib.Core.Bool.{Bool, true, false, not, _&&_}
-use mathlib.Core.List.{List, [], _∷_}
+use mathlib.Core.List.{List, [], _∷_, _++_}
 use Prim.Native.Nat.{ℕ, _+_, _-_}
 use lib.Dec.{eqb, leb, ltb}
 use lib.ListN.{length, getD}
 use Rattle.laws.specs.Choice.{if_then_else_}
 use Rattle.signals.specs.declared.Case.{Case}
 use Rattle.signals.specs.declared.Case.the-variants.{Letters}
-use Rattle.signals.specs.Meaning.{beta, cs3, figures}
+use Rattle.signals.specs.Meaning.{beta, cs3, cs4, figures}
 use Rattle.signals.specs.Numbers.{Answer, answered, refused, firstNot}
 use Rattle.mode_a.specs.declared.Role.{Role}
 use Rattle.mode_a.specs.declared.Role.the-variants.{Master, Slave}
 use Rattle.mode_a.specs.declared.Number.{Number}
-use Rattle.mode_a.specs.declared.Number.the-variants.{One}
+use Rattle.mode_a.specs.declared.Number.the-variants.{One, Two}
 use Rattle.mode_a.specs.declared.Mark.{Mark}
 use Rattle.mode_a.specs.declared.Identity.{Identity}
-use Rattle.mode_a.specs.declared.Peer.the-variants.{Nobody, Four}
+use Rattle.mode_a.specs.declared.Stage.{Stage}
+use Rattle.mode_a.specs.declared.Own.{Own}
+use Rattle.mode_a.specs.declared.Peer.{Peer}
+use Rattle.mode_a.specs.declared.Peer.the-variants.{Nobody, Four, Known, Barred}
 use Rattle.mode_a.specs.declared.Waiting.{Waiting}
 use Rattle.mode_a.specs.declared.Words.{Words}
 use Rattle.mode_a.specs.declared.Place.{Place}
-use Rattle.mode_a.specs.declared.Place.the-variants.{Sending, Turning, Opening, Ending, Receiving, Asking, StandBy, Lost, Calling}
+use Rattle.mode_a.specs.declared.Place.the-variants.{Sending, Turning, Opening, Ending, Receiving, Asking, StandBy, Lost, Calling, Calling3, Identifying, Answering}
 use Rattle.mode_a.specs.declared.Offer.{Offer}
 use Rattle.mode_a.specs.declared.Station.{Station}
 use Rattle.mode_a.specs.declared.Doing.{Doing}
-use Rattle.mode_a.specs.declared.Doing.the-variants.{Repeats, Goes, Takes, Receives, Opens, Accepts, Rests, Answers, Listens, Reaches}
+use Rattle.mode_a.specs.declared.Doing.the-variants.{Repeats, Goes, Takes, Receives, Opens, Accepts, Rests, Answers, Listens, Reaches, Answers3, Bars, Ends, Turns, Meets, Again}
 use Rattle.mode_a.specs.declared.Reply.{Reply}
 use Rattle.mode_a.specs.declared.Stepped.{Stepped}
-use Rattle.mode_a.specs.Calls.{isIdentity, signalsOf, callBlock1}
-use Rattle.mode_a.specs.Station.{words, listOf, single, silence, ααα, other, asksFor, resting}
+use Rattle.identity.specs.declared.Seven.{Seven}
+use Rattle.identity.specs.Table3.{isIdentity}
+use Rattle.identity.specs.Sums.{signalsOf7, sameSeven}
+use Rattle.mode_a.specs.Calls.{signalsOf, callBlock1, call3Block1}
+use Rattle.mode_a.specs.Station.{words, listOf, single, silence, βαβ, ααα, other, asksFor, resting, noSeven}
 use Rattle.mode_a.specs.Heard.{mayHold, heardOf}
 use Rattle.mode_a.specs.declared.Listening.{Listening}
 use Rattle.mode_a.specs.Over.{listenedAll, query, cross}
@@ -67,6 +73,7 @@ takes s n Offer.End =
     record { station = movedTo s (Ending (record { number = n; total = 1 })); sent = ααα; printed = silence; taken = true }
 takes s n Offer.Nothing = holds s n (words beta beta beta) true
 takes s n (Offer.Call i) = holds s n (words beta beta beta) false
+takes s n (Offer.Call3 i) = holds s n (words beta beta beta) false
 
 -- "the traffic signals are printed": the words of the block in order, β left out, 0 behind them  R-074
 abbrev pub withoutβ : List ℕ → List ℕ
@@ -85,6 +92,7 @@ isOver Offer.Over = true
 isOver Offer.End = false
 isOver Offer.Nothing = false
 isOver (Offer.Call i) = false
+isOver (Offer.Call3 i) = false
 
 -- "it awaits the other number and asks for it by CS1 or CS2. But if the over was heard in this block, or the offer is over, it
 -- sends CS3 and goes to Asking (an over offered then counts as taken, no other offer does)."  R-075, R-076, R-077, R-078, R-079
@@ -108,10 +116,31 @@ repeats s w =
     if leb 31 (s .count) then sends (movedTo s Lost) silence
     else sends (standsAt s (s .place) (s .count + 1) (s .case) (s .plus)) w
 
--- 02, T-02: a station that goes to Stand-by, with so many steps to wait and nobody at the other end  R-190
+-- 02, T-02: a station that goes to Stand-by, with so many steps to wait and nobody at the other end; an identity that is barred stays, and
+-- then 128 steps are left to wait (T-05: "waits .. before sending the same call signal again")  R-190, R-223
+abbrev pub leftAt : Peer → Peer
+leftAt Nobody = Nobody
+leftAt (Four i) = Nobody
+leftAt (Known i) = Nobody
+leftAt (Barred i) = Barred i
+
+abbrev pub waitAt : Peer → ℕ → ℕ
+waitAt Nobody n = n
+waitAt (Four i) n = n
+waitAt (Known i) n = n
+waitAt (Barred i) n = 128
+
 abbrev pub rested : Station → ℕ → Station
 rested s n =
-    record { role = s .role; place = resting n; count = 0; case = s .case; plus = s .plus; own = s .own; other = Nobody }
+    record {
+      role = s .role;
+      place = resting (waitAt (s .other) n);
+      count = 0;
+      case = s .case;
+      plus = s .plus;
+      own = s .own;
+      other = leftAt (s .other);
+    }
 
 -- a station that places or answers a call: in letters case, with no + heard and nobody at the other end  R-189
 abbrev pub begun : Station → Role → Place → Station
@@ -127,9 +156,26 @@ called s i =
       taken = true;
     }
 
+-- the same with three blocks  R-202
+abbrev pub called3 : Station → Seven → Reply
+called3 s i =
+    record {
+      station = begun s Master (Calling3 (record { to = i; sent = 1 }));
+      sent = call3Block1 i;
+      printed = silence;
+      taken = true;
+    }
+
 -- "waits 128 cycles in stand-by": one step less is left to wait  R-182, R-188, R-195
 abbrev pub waitsOn : Station → Waiting → Reply
-waitsOn s w = sends (movedTo s (StandBy (record { wait = w .wait - 1; heard = w .heard }))) silence
+waitsOn s w = sends (movedTo s (StandBy (record { wait = w .wait - 1; heard = w .heard; heard3 = w .heard3 }))) silence
+
+-- "before sending the same call signal again": a three-block call waits where its own identity is barred  R-202
+abbrev pub bars : Peer → Seven → Bool
+bars Nobody i = false
+bars (Four j) i = false
+bars (Known j) i = false
+bars (Barred j) i = sameSeven j i
 
 abbrev pub listens : Station → Waiting → Offer → Reply
 listens s w (Offer.Text b) = waitsOn s w
@@ -137,11 +183,34 @@ listens s w Offer.Over = waitsOn s w
 listens s w Offer.End = waitsOn s w
 listens s w Offer.Nothing = waitsOn s w
 listens s w (Offer.Call i) = if eqb (w .wait) 0 then called s i else waitsOn s w
+listens s w (Offer.Call3 i) = if leb 1 (w .wait) && bars (s .other) i then waitsOn s w else called3 s i
 
--- "goes on to traffic": the identity called is at the other end  R-186
-abbrev pub reached : Station → Identity → Station
-reached s i =
-    record { role = s .role; place = s .place; count = s .count; case = s .case; plus = s .plus; own = s .own; other = Four i }
+-- the same station, with this one at the other end, or barred  R-186, R-204, R-205, R-214, R-215, R-218
+abbrev pub knowing : Station → Peer → Station
+knowing s p =
+    record { role = s .role; place = s .place; count = s .count; case = s .case; plus = s .plus; own = s .own; other = p }
+
+-- "32 successive repetitions lead to stand-by" (02, T-05): a repetition in identification, at the same place, standing so  3.6.18, R-222
+abbrev pub again : Station → Place → Words → Reply
+again s p w =
+    if leb 31 (s .count) then sends (rested s 0) silence
+    else sends (standsAt s p (s .count + 1) (s .case) (s .plus)) w
+
+-- "control signal 1, thus starting the traffic flow .. or control signal 3, if the called station is required to start the traffic flow":
+-- where over is offered, which is then taken  3.6.9, R-218
+abbrev pub meets : Station → Bool → Reply
+meets s true = record { station = movedTo s Asking; sent = single cs3; printed = silence; taken = true }
+meets s false = sends (movedTo s (Receiving One)) (asksFor One)
+
+-- the end that answers CS5, and the turn behind identification, after which block 1 is asked for  R-204, R-215
+abbrev pub ends : Station → Reply
+ends s = sends (movedTo s (Ending (record { number = Two; total = 1 }))) ααα
+
+abbrev pub turns : Station → Reply
+turns s = sends (movedTo s (Turning Two)) βαβ
+
+abbrev pub unidentified : Place
+unidentified = Answering (record { stage = Stage.One; got = noSeven })
 
 unfoldable pub done : Station → Words → Offer → Doing → Reply
 done s b o (Repeats w) = repeats s w
@@ -153,10 +222,17 @@ done s b o (Accepts n) = accepts s n b o
 done s b o (Rests n w) = sends (rested s n) w
 done s b o Answers = sends (begun s Slave (Receiving One)) (asksFor One)
 done s b o (Listens w) = listens s w o
-done s b o (Reaches i n) = takes (reached s i) n o
+done s b o (Reaches p n) = takes (knowing s p) n o
+done s b o Answers3 = sends (begun s Slave unidentified) (single cs4)
+done s b o (Bars i) = sends (rested (knowing s (Barred i)) 0) silence
+done s b o (Ends i) = ends (knowing s (Barred i))
+done s b o (Turns i) = turns (knowing s (Known i))
+done s b o (Meets i) = meets (knowing s (Known i)) (isOver o)
+done s b o (Again p w) = again s p w
 
 -- 01, Numbers returned, for the step. "mode A step 4, 3"  R-134, R-135; 8 is "checked before all others at the call" (02, T-02)
 --     8   "an identity signal outside table 3a", of the call that is offered                                 index of the first      R-192
+--         "8 also for a self-identity" (02, T-05): of the identity called, and then of the own one that identification tells       R-224
 --     4   "station with count over 31, an Ending total not 1 to 4, or a held word neither traffic nor β"      "0"                     R-129
 --     3   "a word that may not stand there: text offer (traffic, β)"                                         "index of the first"    R-128
 -- All are judged at every place.
@@ -170,6 +246,9 @@ soundPlace Asking = true
 soundPlace (StandBy w) = true
 soundPlace Lost = true
 soundPlace (Calling c) = true
+soundPlace (Calling3 c) = true
+soundPlace (Identifying i) = true
+soundPlace (Answering g) = true
 
 unfoldable pub sound : Station → Bool
 sound s = leb (s .count) 31 && soundPlace (s .place)
@@ -180,20 +259,22 @@ offered Offer.Over = []
 offered Offer.End = []
 offered Offer.Nothing = []
 offered (Offer.Call i) = []
+offered (Offer.Call3 i) = []
 
-abbrev pub calledTo : Offer → List ℕ
-calledTo (Offer.Text w) = []
-calledTo Offer.Over = []
-calledTo Offer.End = []
-calledTo Offer.Nothing = []
-calledTo (Offer.Call i) = signalsOf i
+abbrev pub calledTo : Own → Offer → List ℕ
+calledTo own (Offer.Text w) = []
+calledTo own Offer.Over = []
+calledTo own Offer.End = []
+calledTo own Offer.Nothing = []
+calledTo own (Offer.Call i) = signalsOf i
+calledTo own (Offer.Call3 i) = signalsOf7 i ++ signalsOf7 (own .seven)
 
 unfoldable pub stepping : Station → Words → Offer → Answer Reply
 stepping s b o =
-    if ltb (firstNot isIdentity (calledTo o)) (length (calledTo o)) then refused 8 (firstNot isIdentity (calledTo o))
+    if ltb (firstNot isIdentity (calledTo (s .own) o)) (length (calledTo (s .own) o)) then refused 8 (firstNot isIdentity (calledTo (s .own) o))
     else if not (sound s) then refused 4 0
     else if ltb (firstNot mayHold (offered o)) (length (offered o)) then refused 3 (firstNot mayHold (offered o))
-    else answered (done s b o (rowOf (s .role) (s .place) (heardOf (s .own) b)))
+    else answered (done s b o (rowOf (s .own) (s .role) (s .place) (heardOf (s .own) b)))
 
 -- each case of the answer, by 01's number and the value beside it  R-167
 abbrev pub saidStepped : Stepped → Answer Reply

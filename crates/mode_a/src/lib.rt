@@ -1,10 +1,13 @@
-// One station of mode A (01, The station; 02, T-02; 001, 3.3 to 3.7): what it is made of. The step is `station::step`; its rules,
+// One station of mode A (01, The station; 02, T-02 and T-05; 001, 3.3 to 3.7): what it is made of. The step is `station::step`; its rules,
 // place by place, are `specs/Rows.antt` and `specs/Step.antt`.
 ghost use mathlib.Core.Path.{_≡_};
 ghost use Rattle.signals.specs.Numbers.{firstNot};
-ghost use Rattle.mode_a.specs.Calls.{isIdentity, signalsOf, callBlock1, callBlock2};
-ghost use Rattle.mode_a.specs.Station.{other, same, asksFor, markOf, freshMaster, freshSlave, firstBurst, StandsBy};
+ghost use Rattle.identity.specs.Table3.{isIdentity};
+ghost use Rattle.mode_a.specs.Calls.{signalsOf, callBlock1, callBlock2};
+ghost use Rattle.mode_a.specs.Station.{other, same, asksFor, markOf, freshMaster, freshSlave, firstBurst, freshAt, StandsBy, StandsByBoth};
 ghost use Rattle.mode_a.specs.Heard.{mayHold};
+ghost use Rattle.mode_a.specs.Rows.{isLast};
+use identity::Seven;
 use signals::Case;
 
 // "A station is master or slave".
@@ -71,6 +74,45 @@ pub enum Mark {
     Two,
 }
 
+// Which of three a burst is, if any: of the own call blocks of seven signals at Stand-by, of the identification blocks at Answering.
+pub enum Part {
+    None,
+    One,
+    Two,
+    Three,
+}
+
+// Which of the own call blocks of seven signals were heard in succession, up to the last step.
+pub enum Succession {
+    None,
+    One,
+    OneTwo,
+    Two,
+    TwoThree,
+}
+
+// How far identification has come: the block that Identifying sends and Answering awaits. The fourth is RQ RQ RQ.
+pub enum Stage {
+    One,
+    Two,
+    Three,
+    Four,
+}
+
+impl Stage {
+    // Whether identification ends with this stage's block.
+    pub fn is_last(self) -> bool
+        ensures { λ r. ⌜ r ≡ isLast self ⌝ }
+    {
+        match self {
+            Stage::One => false,
+            Stage::Two => false,
+            Stage::Three => false,
+            Stage::Four => true,
+        }
+    }
+}
+
 // Three words: a burst, a block, the words of a text offer, or up to three printed signals with 0 behind them.
 pub struct Words(pub u8, pub u8, pub u8);
 
@@ -111,46 +153,11 @@ impl Identity {
     pub fn first_outside(self) -> usize
         ensures { λ r. ⌜ r ≡ firstNot isIdentity (signalsOf self) ⌝ }
     {
-        if !may_identify(self.0) {
-            return 0;
-        }
-        if !may_identify(self.1) {
-            return 1;
-        }
-        if !may_identify(self.2) {
-            return 2;
-        }
-        if !may_identify(self.3) {
-            return 3;
-        }
-        4
+        let from_3 = identity::outside(self.3, 3, 4);
+        let from_2 = identity::outside(self.2, 2, from_3);
+        let from_1 = identity::outside(self.1, 1, from_2);
+        identity::outside(self.0, 0, from_1)
     }
-}
-
-// Whether a word is one of table 3a: V X Q K M P C Y F S T B U E O I R Z D A.
-pub fn may_identify(word: u8) -> bool
-    ensures { λ r. ⌜ r ≡ isIdentity word ⌝ }
-{
-    (word == 60)
-        | (word == 58)
-        | (word == 46)
-        | (word == 30)
-        | (word == 57)
-        | (word == 45)
-        | (word == 29)
-        | (word == 43)
-        | (word == 27)
-        | (word == 75)
-        | (word == 116)
-        | (word == 114)
-        | (word == 78)
-        | (word == 86)
-        | (word == 113)
-        | (word == 77)
-        | (word == 85)
-        | (word == 99)
-        | (word == 83)
-        | (word == 71)
 }
 
 // What Sending holds: a block and its number.
@@ -165,10 +172,12 @@ pub struct Ended {
     pub total: u8,
 }
 
-// What Stand-by holds: the steps left in which it places no call, and which of its own call blocks the last step heard.
+// What Stand-by holds: the steps left in which it places no call of four signals, nor the one of seven that is barred; and which of its own
+// call blocks it has heard: of four signals in the last step, of seven in succession up to it.
 pub struct Waiting {
     pub wait: u8,
     pub heard: Mark,
+    pub heard3: Succession,
 }
 
 // What Calling holds: the identity called, how many call bursts were sent, and which of CS1 and CS2 the last step heard.
@@ -178,15 +187,40 @@ pub struct Called {
     pub last: Mark,
 }
 
+// What Calling with three blocks holds: the identity called, and how many call bursts were sent.
+pub struct Called3 {
+    pub to: Seven,
+    pub sent: u8,
+}
+
+// What Identifying holds: the identity called, the stage, how often a wrong check-sum has had the stage's block sent again, and the last
+// wrong check-sum.
+pub struct Identified {
+    pub to: Seven,
+    pub stage: Stage,
+    pub wrong: u8,
+    pub last: u8,
+}
+
+// What Answering holds: the stage, and the signals of the master's identity gathered so far.
+pub struct Gathered {
+    pub stage: Stage,
+    pub got: Seven,
+}
+
 // The places, with what each carries. The moves between them:
 //   Opening    -> Sending      CS1 or CS2 first, the offer taken under that number;  -> Stand-by at CS3
 //   Sending    -> Turning      CS3 first.      Sending, Opening -> Ending   where the offer taken is end
 //   Turning    -> Receiving    RQ RQ RQ (master), RQ first (slave).        Asking -> Opening   βαβ
 //   Receiving  -> Asking       a block accepted, and the over heard in it or offered;  -> Stand-by at ααα
 //   Ending     -> Stand-by     the other number's signal, or ααα sent four times
-//   Stand-by   -> Receiving    both own call blocks heard;  -> Calling   a call offered, and nothing left to wait
+//   Stand-by   -> Receiving    both own call blocks heard;  -> Calling   a call of four signals offered, and nothing left to wait
 //   Calling    -> Sending      the same CS1 or CS2 twice, or Ending;  -> Stand-by at CS3, or where 128 call bursts are sent
-//   Sending, Turning, Opening, Receiving, Asking -> Lost   the 32nd repetition
+//   Stand-by   -> Answering    the three own call blocks heard;  -> Calling3   one of seven offered, unless it is barred and has to wait
+//   Calling3   -> Identifying  CS4;  -> Ending at CS5;  -> Stand-by at CS3, or where 128 call bursts are sent
+//   Identifying -> Sending     CS1 behind the fourth stage, or Ending;  -> Turning at CS3 there;  -> Ending, Stand-by   wrong check-sums
+//   Answering  -> Receiving    RQ RQ RQ at the fourth stage, or Asking where over is offered;  -> Stand-by at ααα
+//   Sending, Turning, Opening, Receiving, Asking -> Lost   the 32nd repetition;  Identifying, Answering -> Stand-by
 pub enum Place {
     Sending(Held),
     // the number of the last block
@@ -199,26 +233,34 @@ pub enum Place {
     StandBy(Waiting),
     Lost,
     Calling(Called),
+    Calling3(Called3),
+    Identifying(Identified),
+    Answering(Gathered),
 }
 
-// "An offer is text (three words), over, end or nothing", or a call to an identity (02, T-02).
+// "An offer is text (three words), over, end or nothing", or a call to an identity of four signals (02, T-02) or of seven (T-05).
 pub enum Offer {
     Text(Words),
     Over,
     End,
     Nothing,
     Call(Identity),
+    Call3(Seven),
 }
 
-// What no step changes: the own identity.
+// What no step changes: the own identities.
 pub struct Own {
     pub four: Identity,
+    pub seven: Seven,
 }
 
-// Who is at the other end, as far as this station knows: the identity that it called.
+// Who is at the other end, as far as this station knows: the identity of four signals that it called, or that of seven which
+// identification has told. Barred: nobody, and the three-block call to this identity has failed and is not to be placed again at once.
 pub enum Peer {
     Nobody,
     Four(Identity),
+    Known(Seven),
+    Barred(Seven),
 }
 
 // A station: at every place it has its repetition count, and of the direction that it receives the case and whether a + was
@@ -255,13 +297,23 @@ pub enum Doing {
     Opens,
     // accept the block that has the number
     Accepts(Number),
-    // go to Stand-by with so many steps to wait, and send these
+    // go to Stand-by with so many steps to wait, or 128 where an identity is barred, and send these
     Rests(u8, Words),
-    // at Stand-by: answer the call; place the call that is offered where no step is left to wait, or stay, this burst being kept
+    // at Stand-by: answer the call; place the call that is offered where it need not wait, or stay, this burst being kept
     Answers,
     Listens(Waiting),
-    // the identity called has answered: take the offer under the number
-    Reaches(Identity, Number),
+    // who is at the other end is known: take the offer under the number
+    Reaches(Peer, Number),
+    // at Stand-by: answer the three-block call
+    Answers3,
+    // the three-block call has failed, and its identity is barred: go to Stand-by; or end (CS5)
+    Bars(Seven),
+    Ends(Seven),
+    // identification is over, and the identity is at the other end: go to Turning (the master), or to traffic by the offer (the slave)
+    Turns(Seven),
+    Meets(Seven),
+    // a repetition in identification: stand so at the same place, and send these; the 32nd leads to Stand-by
+    Again(Place, Words),
 }
 
 // What a step answers.
@@ -279,19 +331,19 @@ pub enum Stepped {
     BadStation(Station),
     // 3: a word of the text offer neither traffic nor β; the index of the first
     BadWord(usize, Station),
-    // 8: a signal of the identity offered outside table 3a; the index of the first
+    // 8: a signal of the identity called, or behind it of the own one that identification tells, outside table 3a; the index of the first
     BadCall(usize, Station),
 }
 
-// What `Station::standing_by` answers.
+// What `Station::standing_by` and `Station::standing_by_both` answer.
 pub enum Stood {
     By(Station),
-    // 8: a signal of the own identity outside table 3a; the index of the first
+    // 8: a signal of an own identity outside table 3a; the index of the first
     BadIdentity(usize),
 }
 
 impl Station {
-    // The repetition that makes a station Lost.
+    // The repetition that makes a station Lost, or in identification leads it to Stand-by.
     pub const LIMIT: u8 = 32;
 
     // How often ααα is sent.
@@ -299,6 +351,9 @@ impl Station {
 
     // How many call bursts are sent, and how many steps are waited after a call that failed.
     pub const CALLS: u8 = 128;
+
+    // How often an identification block is sent again for wrong check-sums.
+    pub const WRONGS: u8 = 4;
 
     // "A fresh master is Opening."
     pub fn fresh_master() -> Self
@@ -312,6 +367,7 @@ impl Station {
             plus: false,
             own: Own {
                 four: Identity(0, 0, 0, 0),
+                seven: Seven(0, 0, 0, 0, 0, 0, 0),
             },
             other: Peer::Nobody,
         }
@@ -330,13 +386,35 @@ impl Station {
             plus: false,
             own: Own {
                 four: Identity(0, 0, 0, 0),
+                seven: Seven(0, 0, 0, 0, 0, 0, 0),
             },
             other: Peer::Nobody,
         }
     }
 
-    // A station at Stand-by that is called by `identity` (02, T-02; 001, 3.5.1). Refuses 8, with the index of the first signal outside
-    // table 3a: a station with such an identity would never be called.
+    // A station at Stand-by that nobody has called yet.
+    fn fresh_at(own: Own) -> Self
+        ensures { λ r. ⌜ r ≡ freshAt own ⌝ }
+    {
+        // neither master nor slave yet (001, 3.5.1): the type has no third role, and no row of Stand-by looks at it
+        let role = Role::Slave;
+        Station {
+            role: role,
+            place: Place::StandBy(Waiting {
+                wait: 0,
+                heard: Mark::None,
+                heard3: Succession::None,
+            }),
+            count: 0,
+            case: Case::Letters,
+            plus: false,
+            own: own,
+            other: Peer::Nobody,
+        }
+    }
+
+    // A station at Stand-by that is called by `identity` (02, T-02; 001, 3.5.1), and has none of seven signals. Refuses 8, with the index
+    // of the first signal outside table 3a: a station with such an identity would never be called.
     pub fn standing_by(identity: Identity) -> Stood
         ensures { λ r. ⌜ StandsBy identity r ⌝ }
     {
@@ -344,20 +422,28 @@ impl Station {
         if outside < 4 {
             return Stood::BadIdentity(outside);
         }
-        // neither master nor slave yet (001, 3.5.1): the type has no third role, and no row of Stand-by looks at it
-        let role = Role::Slave;
-        Stood::By(Station {
-            role: role,
-            place: Place::StandBy(Waiting {
-                wait: 0,
-                heard: Mark::None,
-            }),
-            count: 0,
-            case: Case::Letters,
-            plus: false,
-            own: Own { four: identity },
-            other: Peer::Nobody,
-        })
+        Stood::By(Station::fresh_at(Own {
+            four: identity,
+            seven: Seven(0, 0, 0, 0, 0, 0, 0),
+        }))
+    }
+
+    // The same with both identities (02, T-05; 001, 3.5.2.1): the index counts the four signals, and then the seven.
+    pub fn standing_by_both(four: Identity, seven: Seven) -> Stood
+        ensures { λ r. ⌜ StandsByBoth four seven r ⌝ }
+    {
+        let of_four = four.first_outside();
+        if of_four < 4 {
+            return Stood::BadIdentity(of_four);
+        }
+        let of_seven = seven.first_outside();
+        if of_seven < 7 {
+            return Stood::BadIdentity(4 + of_seven);
+        }
+        Stood::By(Station::fresh_at(Own {
+            four: four,
+            seven: seven,
+        }))
     }
 
     // "its first burst is CS1" (R-094): CS1 0 0. It stands before the first step, so no step answers it, and it counts as no repetition.

@@ -1,3 +1,3 @@
--- What the code's actions do, beside the rows of `mode_a`.
---     Moves   each action at a place
+-- What the functions of this crate do, beside the rows of `mode_a`.
+--     Moves   Sending and Ending that hear a control signal
 pub mod Moves

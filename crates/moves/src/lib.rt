@@ -1,19 +1,15 @@
-// What each action of the table does at a place: the code's side of 01's rows (01, The station; 02, T-02). The law `rows-agree` says
-// that table and actions together are the rows of `mode_a`. What Stand-by and Calling do is crate `calling`.
+// What Sending, Opening and Ending do with what they hear (01, The station): the moves that ask more than which action it is. What each action
+// of the table does at a place is crate `doings`.
 ghost use mathlib.Core.Path.{_≡_};
-ghost use Rattle.mode_a.specs.Heard.{callOf};
 ghost use Rattle.mode_a.specs.Rows.{requests};
-ghost use Rattle.moves.specs.Moves.{asked, endsAgain, ended, doingOf};
+ghost use Rattle.moves.specs.Moves.{asked, endsAgain, ended};
 use mode_a::Doing;
 use mode_a::Ended;
-use mode_a::Mark;
 use mode_a::Number;
-use mode_a::Own;
 use mode_a::Place;
 use mode_a::Role;
 use mode_a::Station;
 use mode_a::Words;
-use table::Action;
 
 // One RQ if master, three if slave.
 pub fn requests(role: Role) -> Words
@@ -26,7 +22,7 @@ pub fn requests(role: Role) -> Words
 }
 
 // Sending that hears the control signal of a number.
-fn asked(heard: Number, number: Number, block: Words) -> Doing
+pub fn asked(heard: Number, number: Number, block: Words) -> Doing
     ensures { λ r. ⌜ r ≡ asked heard number block ⌝ }
 {
     if heard.same(number) {
@@ -36,7 +32,7 @@ fn asked(heard: Number, number: Number, block: Words) -> Doing
 }
 
 // Ending that hears anything but the other number's control signal.
-fn ends_again(number: Number, total: u8) -> Doing
+pub fn ends_again(number: Number, total: u8) -> Doing
     ensures { λ r. ⌜ r ≡ endsAgain number total ⌝ }
 {
     if Station::ENDINGS <= total {
@@ -52,48 +48,11 @@ fn ends_again(number: Number, total: u8) -> Doing
 }
 
 // Ending that hears the control signal of a number.
-fn ended(heard: Number, number: Number, total: u8) -> Doing
+pub fn ended(heard: Number, number: Number, total: u8) -> Doing
     ensures { λ r. ⌜ r ≡ ended heard number total ⌝ }
 {
     if heard.same(number) {
         return ends_again(number, total);
     }
     Doing::Rests(0, mode_a::SILENCE)
-}
-
-// What an action does at a place. The own identity and the burst are looked at only where the action is Listen.
-pub fn doing(action: Action, role: Role, place: Place, own: Own, burst: Words) -> Doing
-    ensures { λ r. ⌜ r ≡ doingOf action role place (callOf (own .four) burst) ⌝ }
-{
-    let number = carried::number_in(place);
-    match action {
-        Action::Asked1 => asked(Number::One, number, carried::block_in(place)),
-        Action::Asked2 => asked(Number::Two, number, carried::block_in(place)),
-        Action::Turn => Doing::Goes(Place::Turning(number), mode_a::TURN),
-        Action::Rqs => Doing::Repeats(mode_a::RQS),
-        Action::TurnAgain => Doing::Repeats(mode_a::TURN),
-        Action::Receive => Doing::Receives(number.other()),
-        Action::ReceiveIfSlave => match role {
-            Role::Master => Doing::Repeats(mode_a::RQS),
-            Role::Slave => Doing::Receives(number.other()),
-        },
-        Action::Take1 => Doing::Takes(Number::One),
-        Action::Take2 => Doing::Takes(Number::Two),
-        Action::StandBy => Doing::Rests(0, mode_a::SILENCE),
-        Action::Request => Doing::Repeats(requests(role)),
-        Action::Ended1 => ended(Number::One, number, carried::total_in(place)),
-        Action::Ended2 => ended(Number::Two, number, carried::total_in(place)),
-        Action::EndAgain => ends_again(number, carried::total_in(place)),
-        Action::Accept => Doing::Accepts(number),
-        Action::AskAgain => Doing::Repeats(number.asks()),
-        Action::Finish => Doing::Rests(0, number.other().asks()),
-        Action::Cs3Again => Doing::Repeats(Words(signals::CS3, 0, 0)),
-        Action::Open => Doing::Opens,
-        Action::Listen => calling::listening(place, own, burst),
-        Action::Silent => Doing::Goes(place, mode_a::SILENCE),
-        Action::Called1 => calling::called(place, Number::One),
-        Action::Called2 => calling::called(place, Number::Two),
-        Action::CallStops => Doing::Rests(Station::CALLS, mode_a::SILENCE),
-        Action::CallOn => calling::calls_on(place, Mark::None),
-    }
 }

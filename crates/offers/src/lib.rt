@@ -1,14 +1,20 @@
-// What becomes of the offer (01, The station; 02, T-02): a row takes it under a number, or Stand-by places the call that is offered.
+// What becomes of the offer (01, The station; 02, T-02 and T-05): a row takes it under a number, or Stand-by places the call that is
+// offered.
 ghost use mathlib.Core.Path.{_≡_};
+ghost use mathlib.Core.Bool.{_&&_};
 ghost use Prim.Native.Nat.{_-_};
-ghost use Rattle.mode_a.specs.Step.{holds, takes, called, waitsOn, listens};
+ghost use lib.Dec.{leb};
+ghost use Rattle.mode_a.specs.Step.{holds, takes, called, called3, waitsOn, bars, listens};
+use identity::Seven;
 use mode_a::Called;
+use mode_a::Called3;
 use mode_a::Ended;
 use mode_a::Held;
 use mode_a::Identity;
 use mode_a::Mark;
 use mode_a::Number;
 use mode_a::Offer;
+use mode_a::Peer;
 use mode_a::Place;
 use mode_a::Reply;
 use mode_a::Role;
@@ -63,6 +69,7 @@ pub fn takes(s: Station, number: Number, offer: Offer) -> Reply
         Offer::End => ends(s, number),
         Offer::Nothing => holds(s, number, BETAS, true),
         Offer::Call(_) => holds(s, number, BETAS, false),
+        Offer::Call3(_) => holds(s, number, BETAS, false),
     }
 }
 
@@ -85,6 +92,21 @@ fn called(s: Station, to: Identity) -> Reply
     }
 }
 
+// The same with three blocks.
+fn called3(s: Station, to: Seven) -> Reply
+    ensures { λ r. ⌜ r ≡ called3 s to ⌝ }
+{
+    let call = Called3 { to: to, sent: 1 };
+    let block = Words(to.0, signals::RQ, to.1);
+    let nothing = mode_a::SILENCE;
+    Reply {
+        station: stands::begun(s, Role::Master, Place::Calling3(call)),
+        sent: block,
+        printed: nothing,
+        taken: true,
+    }
+}
+
 // One less, and never below none.
 fn one_less(wait: u8) -> u8
     ensures { λ r. ⌜ r ≡ wait - 1 ⌝ }
@@ -100,9 +122,11 @@ fn waits_on(s: Station, w: Waiting) -> Reply
     ensures { λ r. ⌜ r ≡ waitsOn s w ⌝ }
 {
     let heard = w.heard;
+    let heard3 = w.heard3;
     let waiting = Waiting {
         wait: one_less(w.wait),
         heard: heard,
+        heard3: heard3,
     };
     stands::sends(
         stands::moved_to(s, Place::StandBy(waiting)),
@@ -110,7 +134,41 @@ fn waits_on(s: Station, w: Waiting) -> Reply
     )
 }
 
-// Stand-by that answers no call: a call offered is placed where no step is left to wait.
+// Whether this very identity is barred.
+fn bars(other: Peer, to: Seven) -> bool
+    ensures { λ r. ⌜ r ≡ bars other to ⌝ }
+{
+    match other {
+        Peer::Nobody => false,
+        Peer::Four(_) => false,
+        Peer::Known(_) => false,
+        Peer::Barred(barred) => barred.same(to),
+    }
+}
+
+// Whether the three-block call has to wait: a step is left, and its identity is barred. Another call need not.
+fn has_to_wait(other: Peer, wait: u8, to: Seven) -> bool
+    ensures { λ r. ⌜ r ≡ (leb 1 wait && bars other to) ⌝ }
+{
+    if wait < 1 {
+        return false;
+    }
+    bars(other, to)
+}
+
+// Stand-by that answers no call and is offered a three-block call.
+fn listens3(s: Station, w: Waiting, to: Seven) -> Reply
+    ensures { λ r. ⌜ r ≡ listens s w (Offer.Call3 to) ⌝ }
+{
+    let other = s.other;
+    if has_to_wait(other, w.wait, to) {
+        return waits_on(s, w);
+    }
+    called3(s, to)
+}
+
+// Stand-by that answers no call: a call offered is placed where no step is left to wait, a three-block call also within the wait unless
+// it is the one that has failed.
 pub fn listens(s: Station, w: Waiting, offer: Offer) -> Reply
     ensures { λ r. ⌜ r ≡ listens s w offer ⌝ }
 {
@@ -125,5 +183,6 @@ pub fn listens(s: Station, w: Waiting, offer: Offer) -> Reply
             }
             waits_on(s, w)
         }
+        Offer::Call3(to) => listens3(s, w, to),
     }
 }

@@ -6,6 +6,7 @@ use mathlib.Core.List.{List, [], _∷_}
 use Prim.Native.Nat.{ℕ, _<_}
 use lib.ListN.{length}
 use lib.Seq.{ext-getD}
+use Rattle.laws.specs.Choice.{if_then_else_}
 use Rattle.laws.proofs.Unique.{unique}
 use Rattle.numbers.specs.declared.Reader.{Reader}
 use Rattle.numbers.specs.declared.Event.{Event}
@@ -14,37 +15,54 @@ use Rattle.numbers.specs.declared.Line.{Line}
 use Rattle.numbers.specs.Steps.{freshReader, taking, endBrings}
 use Rattle.numbers.specs.Writing.{Puts, decimal, hexadecimal, PutsWord, fitsWord}
 use Rattle.signals.specs.declared.Row.{Row}
-use Rattle.signals.specs.Meaning.{trafficOf}
+use Rattle.signals.specs.Meaning.{trafficOf, cs4}
 use Rattle.signals.specs.Rows.{row, Rows}
 use Rattle.signals.specs.Numbers.{firstNot}
+use Rattle.identity.specs.declared.Seven.{Seven}
+use Rattle.identity.specs.Table3.{isIdentity}
+use Rattle.identity.specs.Sums.{signalsOf7, checkSum1, checkSum2, checkSum3, sameSeven}
 use Rattle.text.specs.Encoding.{hasSignal}
 use Rattle.text.specs.Printing.{mayPrint}
 use Rattle.judging.specs.Size.{sizesOf}
 use Rattle.mode_a.specs.declared.Role.{Role}
+use Rattle.mode_a.specs.declared.Role.the-variants.{Slave}
 use Rattle.mode_a.specs.declared.Number.{Number}
+use Rattle.mode_a.specs.declared.Number.the-variants.{One}
 use Rattle.mode_a.specs.declared.Mark.{Mark}
+use Rattle.mode_a.specs.declared.Part.{Part}
+use Rattle.mode_a.specs.declared.Succession.{Succession}
+use Rattle.mode_a.specs.declared.Stage.{Stage}
 use Rattle.mode_a.specs.declared.Words.{Words}
 use Rattle.mode_a.specs.declared.Identity.{Identity}
 use Rattle.mode_a.specs.declared.Own.{Own}
+use Rattle.mode_a.specs.declared.Peer.{Peer}
+use Rattle.mode_a.specs.declared.Peer.the-variants.{Known, Barred}
 use Rattle.mode_a.specs.declared.Waiting.{Waiting}
 use Rattle.mode_a.specs.declared.Called.{Called}
+use Rattle.mode_a.specs.declared.Called3.{Called3}
+use Rattle.mode_a.specs.declared.Identified.{Identified}
+use Rattle.mode_a.specs.declared.Gathered.{Gathered}
 use Rattle.mode_a.specs.declared.Place.{Place}
 use Rattle.mode_a.specs.declared.Offer.{Offer}
 use Rattle.mode_a.specs.declared.Station.{Station}
 use Rattle.mode_a.specs.declared.Listening.{Listening}
 use Rattle.mode_a.specs.declared.Reply.{Reply}
 use Rattle.mode_a.specs.declared.Doing.{Doing}
-use Rattle.mode_a.specs.Calls.{isIdentity, signalsOf, callBlock1, callBlock2}
-use Rattle.mode_a.specs.Station.{words, other, same, asksFor, markOf}
-use Rattle.mode_a.specs.Heard.{Cs, mayHold, isWords, callOf}
-use Rattle.mode_a.specs.Rows.{requests, callsOn, calling, standBy}
-use Rattle.mode_a.specs.Step.{movedTo, cancelledTo, sends, takes, heardAt, accepts, repeats, rested, begun, listens, reached, done}
+use Rattle.mode_a.specs.declared.Doing.the-variants.{Bars, Ends, Meets}
+use Rattle.mode_a.specs.Calls.{signalsOf, callBlock1, callBlock2}
+use Rattle.mode_a.specs.Station.{words, single, silence, other, same, asksFor, markOf}
+use Rattle.mode_a.specs.Identification.{identityBlock, toldIn}
+use Rattle.mode_a.specs.Heard.{Cs, Cs3, Else, Cs4, Letter, mayHold, isWords, callOf, call3Of}
+use Rattle.mode_a.specs.Rows.{requests, callsOn, calling, standBy, allHeard, heardThen, callsOn3, calling3, identifying, sameBlock, hearing, isLast}
+use Rattle.mode_a.specs.Step.{movedTo, cancelledTo, sends, takes, isOver, heardAt, accepts, repeats, again, rested, begun, listens, knowing, meets, ends, turns, unidentified, sound, done}
 use Rattle.table.specs.declared.Kind.{Kind}
 use Rattle.table.specs.declared.Action.{Action}
 use Rattle.table.specs.Kinds.{kindOf, columnOf}
 use Rattle.table.specs.Actions.{actionOf}
-use Rattle.carried.specs.Carried.{numberIn, blockIn, totalIn, waitingIn, calledIn}
-use Rattle.moves.specs.Moves.{doingOf}
+use Rattle.carried.specs.Carried.{numberIn, blockIn, totalIn, waitingIn, calledIn, called3In, identifiedIn, gatheredIn}
+use Rattle.moves.specs.Moves.{asked, endsAgain, ended}
+use Rattle.doings.specs.Doings.{doingOf}
+use Rattle.refusals.specs.Parts.{badOffer, badCall}
 
 -- `signals::rows`: that there are 35 rows is the answer's type, `[Row; 35]`, and `Rows` says what each is
 pub rows-unique : (r r′ : List Row) → length r ≡ 35 → length r′ ≡ 35 → Rows r → Rows r′ → r ≡ r′
@@ -66,12 +84,31 @@ first-bad-unique ws r r′ p q = unique p q
 pub needed-unique : (ws : List ℕ) (r r′ : ℕ) → r ≡ sizesOf ws → r′ ≡ sizesOf ws → r ≡ r′
 needed-unique ws r r′ p q = unique p q
 
--- `mode_a::may_hold`, `mode_a::may_identify`, and the functions of `Number` and `Identity`
-pub may-hold-unique : (w : ℕ) (r r′ : Bool) → r ≡ mayHold w → r′ ≡ mayHold w → r ≡ r′
-may-hold-unique w r r′ p q = unique p q
-
+-- `identity::may_identify`, `identity::outside`, and the functions of `Seven`
 pub may-identify-unique : (w : ℕ) (r r′ : Bool) → r ≡ isIdentity w → r′ ≡ isIdentity w → r ≡ r′
 may-identify-unique w r r′ p q = unique p q
+
+pub outside-unique : (w place rest : ℕ) (r r′ : ℕ) → r ≡ (if isIdentity w then rest else place) → r′ ≡ (if isIdentity w then rest else place) → r ≡ r′
+outside-unique w place rest r r′ p q = unique p q
+
+pub check-sum-1-unique : (i : Seven) (r r′ : ℕ) → r ≡ checkSum1 i → r′ ≡ checkSum1 i → r ≡ r′
+check-sum-1-unique i r r′ p q = unique p q
+
+pub check-sum-2-unique : (i : Seven) (r r′ : ℕ) → r ≡ checkSum2 i → r′ ≡ checkSum2 i → r ≡ r′
+check-sum-2-unique i r r′ p q = unique p q
+
+pub check-sum-3-unique : (i : Seven) (r r′ : ℕ) → r ≡ checkSum3 i → r′ ≡ checkSum3 i → r ≡ r′
+check-sum-3-unique i r r′ p q = unique p q
+
+pub seven-first-outside-unique : (i : Seven) (r r′ : ℕ) → r ≡ firstNot isIdentity (signalsOf7 i) → r′ ≡ firstNot isIdentity (signalsOf7 i) → r ≡ r′
+seven-first-outside-unique i r r′ p q = unique p q
+
+pub seven-same-unique : (i j : Seven) (r r′ : Bool) → r ≡ sameSeven i j → r′ ≡ sameSeven i j → r ≡ r′
+seven-same-unique i j r r′ p q = unique p q
+
+-- `mode_a::may_hold`, and the functions of `Number` and `Identity`
+pub may-hold-unique : (w : ℕ) (r r′ : Bool) → r ≡ mayHold w → r′ ≡ mayHold w → r ≡ r′
+may-hold-unique w r r′ p q = unique p q
 
 pub other-unique : (n r r′ : Number) → r ≡ other n → r′ ≡ other n → r ≡ r′
 other-unique n r r′ p q = unique p q
@@ -84,6 +121,9 @@ asks-unique n r r′ p q = unique p q
 
 pub mark-unique : (n : Number) (r r′ : Mark) → r ≡ markOf n → r′ ≡ markOf n → r ≡ r′
 mark-unique n r r′ p q = unique p q
+
+pub is-last-unique : (s : Stage) (r r′ : Bool) → r ≡ isLast s → r′ ≡ isLast s → r ≡ r′
+is-last-unique s r r′ p q = unique p q
 
 pub block-1-unique : (i : Identity) (r r′ : Words) → r ≡ callBlock1 i → r′ ≡ callBlock1 i → r ≡ r′
 block-1-unique i r r′ p q = unique p q
@@ -123,8 +163,39 @@ waiting-in-unique place r r′ p q = unique p q
 pub called-in-unique : (place : Place) (r r′ : Called) → r ≡ calledIn place → r′ ≡ calledIn place → r ≡ r′
 called-in-unique place r r′ p q = unique p q
 
+pub called3-in-unique : (place : Place) (r r′ : Called3) → r ≡ called3In place → r′ ≡ called3In place → r ≡ r′
+called3-in-unique place r r′ p q = unique p q
+
+pub identified-in-unique : (place : Place) (r r′ : Identified) → r ≡ identifiedIn place → r′ ≡ identifiedIn place → r ≡ r′
+identified-in-unique place r r′ p q = unique p q
+
+pub gathered-in-unique : (place : Place) (r r′ : Gathered) → r ≡ gatheredIn place → r′ ≡ gatheredIn place → r ≡ r′
+gathered-in-unique place r r′ p q = unique p q
+
+-- `calling3`: what Stand-by hears of a three-block call, and what Calling with three blocks does
+pub call-of-unique : (seven : Seven) (b : Words) (r r′ : Part) → r ≡ call3Of seven b → r′ ≡ call3Of seven b → r ≡ r′
+call-of-unique seven b r r′ p q = unique p q
+
+pub all-heard-unique : (before : Succession) (heard : Part) (r r′ : Bool) → r ≡ allHeard before heard → r′ ≡ allHeard before heard → r ≡ r′
+all-heard-unique before heard r r′ p q = unique p q
+
+pub heard-then-unique : (before : Succession) (heard : Part) (r r′ : Succession) → r ≡ heardThen before heard → r′ ≡ heardThen before heard → r ≡ r′
+heard-then-unique before heard r r′ p q = unique p q
+
+pub calls-on-3-unique : (place : Place) (r r′ : Doing) → r ≡ callsOn3 (called3In place) → r′ ≡ callsOn3 (called3In place) → r ≡ r′
+calls-on-3-unique place r r′ p q = unique p q
+
+pub identifies-unique : (place : Place) (own : Own) (r r′ : Doing) → r ≡ calling3 (own .seven) (called3In place) (Else Cs4) → r′ ≡ calling3 (own .seven) (called3In place) (Else Cs4) → r ≡ r′
+identifies-unique place own r r′ p q = unique p q
+
+pub ends-3-unique : (place : Place) (r r′ : Doing) → r ≡ Ends (called3In place .to) → r′ ≡ Ends (called3In place .to) → r ≡ r′
+ends-3-unique place r r′ p q = unique p q
+
+pub stops-unique : (place : Place) (r r′ : Doing) → r ≡ Bars (called3In place .to) → r′ ≡ Bars (called3In place .to) → r ≡ r′
+stops-unique place r r′ p q = unique p q
+
 -- `calling::listening`, `calling::calls_on`, `calling::called`
-pub listening-unique : (place : Place) (own : Own) (burst : Words) (r r′ : Doing) → r ≡ standBy (waitingIn place) (callOf (own .four) burst) → r′ ≡ standBy (waitingIn place) (callOf (own .four) burst) → r ≡ r′
+pub listening-unique : (place : Place) (own : Own) (burst : Words) (r r′ : Doing) → r ≡ standBy (waitingIn place) (callOf (own .four) burst) (call3Of (own .seven) burst) → r′ ≡ standBy (waitingIn place) (callOf (own .four) burst) (call3Of (own .seven) burst) → r ≡ r′
 listening-unique place own burst r r′ p q = unique p q
 
 pub calls-on-unique : (place : Place) (heard : Mark) (r r′ : Doing) → r ≡ callsOn (calledIn place) heard → r′ ≡ callsOn (calledIn place) heard → r ≡ r′
@@ -133,12 +204,45 @@ calls-on-unique place heard r r′ p q = unique p q
 pub called-unique : (place : Place) (number : Number) (r r′ : Doing) → r ≡ calling (calledIn place) (Cs number) → r′ ≡ calling (calledIn place) (Cs number) → r ≡ r′
 called-unique place number r r′ p q = unique p q
 
--- `moves::doing`, `moves::requests`
-pub doing-unique : (action : Action) (role : Role) (place : Place) (own : Own) (burst : Words) (r r′ : Doing) → r ≡ doingOf action role place (callOf (own .four) burst) → r′ ≡ doingOf action role place (callOf (own .four) burst) → r ≡ r′
-doing-unique action role place own burst r r′ p q = unique p q
+-- `identifying`: Identifying, by what is heard
+pub identity-block-unique : (own : Seven) (stage : Stage) (r r′ : Words) → r ≡ identityBlock own stage → r′ ≡ identityBlock own stage → r ≡ r′
+identity-block-unique own stage r r′ p q = unique p q
+
+pub compared-unique : (place : Place) (own : Own) (letter : ℕ) (r r′ : Doing) → r ≡ identifying (own .seven) (identifiedIn place) (Else (Letter letter)) → r′ ≡ identifying (own .seven) (identifiedIn place) (Else (Letter letter)) → r ≡ r′
+compared-unique place own letter r r′ p q = unique p q
+
+pub block-again-unique : (place : Place) (own : Own) (r r′ : Doing) → r ≡ sameBlock (own .seven) (identifiedIn place) → r′ ≡ sameBlock (own .seven) (identifiedIn place) → r ≡ r′
+block-again-unique place own r r′ p q = unique p q
+
+pub taken-if-last-unique : (place : Place) (own : Own) (r r′ : Doing) → r ≡ identifying (own .seven) (identifiedIn place) (Cs One) → r′ ≡ identifying (own .seven) (identifiedIn place) (Cs One) → r ≡ r′
+taken-if-last-unique place own r r′ p q = unique p q
+
+pub turned-if-last-unique : (place : Place) (own : Own) (r r′ : Doing) → r ≡ identifying (own .seven) (identifiedIn place) Cs3 → r′ ≡ identifying (own .seven) (identifiedIn place) Cs3 → r ≡ r′
+turned-if-last-unique place own r r′ p q = unique p q
+
+-- `answering::gathered`, `answering::met_if_last`
+pub gathered-unique : (place : Place) (own : Own) (burst : Words) (r r′ : Doing) → r ≡ hearing (own .seven) (gatheredIn place .got) (gatheredIn place .stage) (toldIn burst) → r′ ≡ hearing (own .seven) (gatheredIn place .got) (gatheredIn place .stage) (toldIn burst) → r ≡ r′
+gathered-unique place own burst r r′ p q = unique p q
+
+pub met-if-last-unique : (place : Place) (own : Own) (burst : Words) (r r′ : Doing) → r ≡ (if isLast (gatheredIn place .stage) then Meets (gatheredIn place .got) else hearing (own .seven) (gatheredIn place .got) (gatheredIn place .stage) (toldIn burst)) → r′ ≡ (if isLast (gatheredIn place .stage) then Meets (gatheredIn place .got) else hearing (own .seven) (gatheredIn place .got) (gatheredIn place .stage) (toldIn burst)) → r ≡ r′
+met-if-last-unique place own burst r r′ p q = unique p q
+
+-- `moves::asked`, `moves::ends_again`, `moves::ended`, `moves::requests`
+pub asked-unique : (heard number : Number) (block : Words) (r r′ : Doing) → r ≡ asked heard number block → r′ ≡ asked heard number block → r ≡ r′
+asked-unique heard number block r r′ p q = unique p q
+
+pub ends-again-unique : (number : Number) (total : ℕ) (r r′ : Doing) → r ≡ endsAgain number total → r′ ≡ endsAgain number total → r ≡ r′
+ends-again-unique number total r r′ p q = unique p q
+
+pub ended-unique : (heard number : Number) (total : ℕ) (r r′ : Doing) → r ≡ ended heard number total → r′ ≡ ended heard number total → r ≡ r′
+ended-unique heard number total r r′ p q = unique p q
 
 pub requests-unique : (role : Role) (r r′ : Words) → r ≡ requests role → r′ ≡ requests role → r ≡ r′
 requests-unique role r r′ p q = unique p q
+
+-- `doings::doing`
+pub doing-unique : (action : Action) (role : Role) (place : Place) (own : Own) (burst : Words) (r r′ : Doing) → r ≡ doingOf action role place own burst → r′ ≡ doingOf action role place own burst → r ≡ r′
+doing-unique action role place own burst r r′ p q = unique p q
 
 -- `stands`: the station after a step, an answer that only sends, a repetition
 pub moved-to-unique : (s : Station) (place : Place) (r r′ : Station) → r ≡ movedTo s place → r′ ≡ movedTo s place → r ≡ r′
@@ -156,8 +260,8 @@ rested-unique s wait r r′ p q = unique p q
 pub begun-unique : (s : Station) (role : Role) (place : Place) (r r′ : Station) → r ≡ begun s role place → r′ ≡ begun s role place → r ≡ r′
 begun-unique s role place r r′ p q = unique p q
 
-pub reached-unique : (s : Station) (four : Identity) (r r′ : Station) → r ≡ reached s four → r′ ≡ reached s four → r ≡ r′
-reached-unique s four r r′ p q = unique p q
+pub knowing-unique : (s : Station) (end : Peer) (r r′ : Station) → r ≡ knowing s end → r′ ≡ knowing s end → r ≡ r′
+knowing-unique s end r r′ p q = unique p q
 
 pub sends-unique : (s : Station) (w : Words) (r r′ : Reply) → r ≡ sends s w → r′ ≡ sends s w → r ≡ r′
 sends-unique s w r r′ p q = unique p q
@@ -165,7 +269,13 @@ sends-unique s w r r′ p q = unique p q
 pub repeats-unique : (s : Station) (w : Words) (r r′ : Reply) → r ≡ repeats s w → r′ ≡ repeats s w → r ≡ r′
 repeats-unique s w r r′ p q = unique p q
 
--- `acceptance::accepts`; `offers::takes`, `offers::listens`
+pub again-unique : (s : Station) (place : Place) (w : Words) (r r′ : Reply) → r ≡ again s place w → r′ ≡ again s place w → r ≡ r′
+again-unique s place w r r′ p q = unique p q
+
+-- `acceptance::is_over`, `acceptance::accepts`; `offers::takes`, `offers::listens`
+pub is-over-unique : (o : Offer) (r r′ : Bool) → r ≡ isOver o → r′ ≡ isOver o → r ≡ r′
+is-over-unique o r r′ p q = unique p q
+
 pub accepts-unique : (s : Station) (n : Number) (b : Words) (o : Offer) (r r′ : Reply) → r ≡ accepts s n b o → r′ ≡ accepts s n b o → r ≡ r′
 accepts-unique s n b o r r′ p q = unique p q
 
@@ -174,6 +284,32 @@ takes-unique s n o r r′ p q = unique p q
 
 pub listens-unique : (s : Station) (w : Waiting) (o : Offer) (r r′ : Reply) → r ≡ listens s w o → r′ ≡ listens s w o → r ≡ r′
 listens-unique s w o r r′ p q = unique p q
+
+-- `meeting`: a three-block call heard, failed, ended by CS5; identification ended by CS3, by RQ RQ RQ
+pub answers3-unique : (s : Station) (r r′ : Reply) → r ≡ sends (begun s Slave unidentified) (single cs4) → r′ ≡ sends (begun s Slave unidentified) (single cs4) → r ≡ r′
+answers3-unique s r r′ p q = unique p q
+
+pub bars-unique : (s : Station) (to : Seven) (r r′ : Reply) → r ≡ sends (rested (knowing s (Barred to)) 0) silence → r′ ≡ sends (rested (knowing s (Barred to)) 0) silence → r ≡ r′
+bars-unique s to r r′ p q = unique p q
+
+pub ends-unique : (s : Station) (to : Seven) (r r′ : Reply) → r ≡ ends (knowing s (Barred to)) → r′ ≡ ends (knowing s (Barred to)) → r ≡ r′
+ends-unique s to r r′ p q = unique p q
+
+pub turns-unique : (s : Station) (to : Seven) (r r′ : Reply) → r ≡ turns (knowing s (Known to)) → r′ ≡ turns (knowing s (Known to)) → r ≡ r′
+turns-unique s to r r′ p q = unique p q
+
+pub meets-unique : (s : Station) (got : Seven) (o : Offer) (r r′ : Reply) → r ≡ meets (knowing s (Known got)) (isOver o) → r′ ≡ meets (knowing s (Known got)) (isOver o) → r ≡ r′
+meets-unique s got o r r′ p q = unique p q
+
+-- `refusals`: what a step refuses
+pub sound-unique : (s : Station) (r r′ : Bool) → r ≡ sound s → r′ ≡ sound s → r ≡ r′
+sound-unique s r r′ p q = unique p q
+
+pub bad-offer-unique : (o : Offer) (r r′ : ℕ) → r ≡ badOffer o → r′ ≡ badOffer o → r ≡ r′
+bad-offer-unique o r r′ p q = unique p q
+
+pub bad-call-unique : (s : Station) (o : Offer) (r r′ : ℕ) → r ≡ badCall (s .own) o → r′ ≡ badCall (s .own) o → r ≡ r′
+bad-call-unique s o r r′ p q = unique p q
 
 -- `replies::done`
 pub done-unique : (s : Station) (b : Words) (o : Offer) (d : Doing) (r r′ : Reply) → r ≡ done s b o d → r′ ≡ done s b o d → r ≡ r′

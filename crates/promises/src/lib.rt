@@ -10,10 +10,11 @@ ghost use Rattle.signals.specs.Units.{intactOf};
 ghost use Rattle.signals.specs.Meaning.{meaningOf};
 ghost use Rattle.text.specs.Encoding.{Encodes};
 ghost use Rattle.text.specs.Printing.{Prints};
-ghost use Rattle.mode_a.specs.Station.{freshMaster, freshSlave, firstBurst, StandsBy};
+ghost use Rattle.mode_a.specs.Station.{freshMaster, freshSlave, firstBurst, StandsBy, StandsByBoth};
 ghost use Rattle.mode_a.specs.Step.{Steps};
 ghost use Rattle.mode_b.specs.Sender.{Slots};
 ghost use Rattle.mode_b.specs.Receiver.{freshReceiver, Receives};
+use identity::Seven;
 use mode_a::Identity;
 use mode_a::Offer;
 use mode_a::Station;
@@ -53,7 +54,7 @@ pub fn print(words: &[u8], case: Case, room: &mut [u8]) -> Printed
     printing::print(words, case, room)
 }
 
-// 01, The station; 02, T-02: `step` hears and places calls.
+// 01, The station; 02, T-02 and T-05: `step` hears and places calls, and tells and learns identities.
 pub fn step(s: Station, burst: Words, offer: Offer) -> Stepped
     ensures { λ r. ⌜ Steps s burst offer r ⌝ }
 {
@@ -76,6 +77,12 @@ pub fn standing_by(identity: Identity) -> Stood
     ensures { λ r. ⌜ StandsBy identity r ⌝ }
 {
     Station::standing_by(identity)
+}
+
+pub fn standing_by_both(four: Identity, seven: Seven) -> Stood
+    ensures { λ r. ⌜ StandsByBoth four seven r ⌝ }
+{
+    Station::standing_by_both(four, seven)
 }
 
 pub fn first_burst() -> Words

@@ -1,17 +1,17 @@
 // What a station answers by what its row says to do: the new station, the burst to send, up to three printed signals, and whether the
-// offer was taken (01, The station; 02, T-02; 001, 3.5 and 3.7). Which of these is done is told by `table` and `moves`; refusals stand in
-// `station`.
+// offer was taken (01, The station; 02, T-02 and T-05; 001, 3.5 to 3.7). Which of these is done is told by `table` and `doings`; refusals
+// stand in `station`.
 ghost use mathlib.Core.Path.{_≡_};
 ghost use Rattle.mode_a.specs.declared.Number.the-variants.{One};
 ghost use Rattle.mode_a.specs.declared.Place.the-variants.{Opening, Receiving};
 ghost use Rattle.mode_a.specs.declared.Role.the-variants.{Slave};
 ghost use Rattle.mode_a.specs.Station.{asksFor};
 ghost use Rattle.mode_a.specs.Rows.{requests};
-ghost use Rattle.mode_a.specs.Step.{movedTo, cancelledTo, sends, takes, rested, begun, reached, done};
+ghost use Rattle.mode_a.specs.Step.{movedTo, cancelledTo, sends, takes, rested, begun, knowing, done};
 use mode_a::Doing;
-use mode_a::Identity;
 use mode_a::Number;
 use mode_a::Offer;
+use mode_a::Peer;
 use mode_a::Place;
 use mode_a::Reply;
 use mode_a::Role;
@@ -60,11 +60,11 @@ fn answers(s: Station) -> Reply
     )
 }
 
-// The identity called has answered twice: it is at the other end, and the offer is taken.
-fn reaches(s: Station, four: Identity, number: Number, offer: Offer) -> Reply
-    ensures { λ r. ⌜ r ≡ takes (reached s four) number offer ⌝ }
+// Who is at the other end is known, and the offer is taken.
+fn reaches(s: Station, other: Peer, number: Number, offer: Offer) -> Reply
+    ensures { λ r. ⌜ r ≡ takes (knowing s other) number offer ⌝ }
 {
-    offers::takes(stands::reached(s, four), number, offer)
+    offers::takes(stands::knowing(s, other), number, offer)
 }
 
 // The answer of the station `s` that hears the burst `b` and is offered `offer`. It refuses nothing: `station::step` judges before.
@@ -81,6 +81,12 @@ pub fn done(s: Station, b: Words, offer: Offer, doing: Doing) -> Reply
         Doing::Rests(wait, words) => rests(s, wait, words),
         Doing::Answers => answers(s),
         Doing::Listens(waiting) => offers::listens(s, waiting, offer),
-        Doing::Reaches(four, number) => reaches(s, four, number, offer),
+        Doing::Reaches(other, number) => reaches(s, other, number, offer),
+        Doing::Answers3 => meeting::answers3(s),
+        Doing::Bars(to) => meeting::bars(s, to),
+        Doing::Ends(to) => meeting::ends(s, to),
+        Doing::Turns(to) => meeting::turns(s, to),
+        Doing::Meets(got) => meeting::meets(s, got, offer),
+        Doing::Again(place, words) => stands::again(s, place, words),
     }
 }

@@ -1,18 +1,26 @@
 // Writes the table of actions, a line a cell, then the kind of each burst of three bytes that it reads (docs/FORMATS.md).
 use filters::Stream;
+use identity::Seven;
 use mode_a::Called;
+use mode_a::Called3;
 use mode_a::Ended;
+use mode_a::Gathered;
 use mode_a::Held;
+use mode_a::Identified;
 use mode_a::Identity;
 use mode_a::Mark;
 use mode_a::Number;
 use mode_a::Place;
+use mode_a::Stage;
+use mode_a::Succession;
 use mode_a::Waiting;
 use mode_a::Words;
 use table::Action;
 use table::Kind;
 
-// The places and the kinds in 01's order, and Calling behind them. What a place holds does not choose its row.
+const NO_SEVEN: Seven = Seven(0, 0, 0, 0, 0, 0, 0);
+
+// The places and the kinds in 01's order, and those of calls behind them. What a place holds does not choose its row.
 fn place_at(no: u64) -> Place {
     match no {
         0 => Place::Sending(Held {
@@ -30,12 +38,27 @@ fn place_at(no: u64) -> Place {
         6 => Place::StandBy(Waiting {
             wait: 0,
             heard: Mark::None,
+            heard3: Succession::None,
         }),
         7 => Place::Lost,
-        _ => Place::Calling(Called {
+        8 => Place::Calling(Called {
             to: Identity(0, 0, 0, 0),
             sent: 1,
             last: Mark::None,
+        }),
+        9 => Place::Calling3(Called3 {
+            to: NO_SEVEN,
+            sent: 1,
+        }),
+        10 => Place::Identifying(Identified {
+            to: NO_SEVEN,
+            stage: Stage::One,
+            wrong: 0,
+            last: 0,
+        }),
+        _ => Place::Answering(Gathered {
+            stage: Stage::One,
+            got: NO_SEVEN,
         }),
     }
 }
@@ -48,11 +71,17 @@ fn kind_at(no: u64) -> Kind {
         3 => Kind::Cs2,
         4 => Kind::Cs3Block,
         5 => Kind::Cs3,
-        6 => Kind::Rqs,
-        7 => Kind::Rq,
-        8 => Kind::Block,
-        9 => Kind::Turn,
-        10 => Kind::Alphas,
+        6 => Kind::Cs4Block,
+        7 => Kind::Cs4,
+        8 => Kind::Cs5Block,
+        9 => Kind::Cs5,
+        10 => Kind::LetterBlock,
+        11 => Kind::Letter,
+        12 => Kind::Rqs,
+        13 => Kind::Rq,
+        14 => Kind::Block,
+        15 => Kind::Turn,
+        16 => Kind::Alphas,
         _ => Kind::Else,
     }
 }
@@ -90,7 +119,7 @@ fn put_kind(line: &mut [u8], at: usize, kind: Kind) -> usize {
     put_name(
         line,
         to,
-        b"cs1-block cs1 cs2-block cs2 cs3-block cs3 rqs rq block turn alphas else ",
+        b"cs1-block cs1 cs2-block cs2 cs3-block cs3 cs4-block cs4 cs5-block cs5 letter-block letter rqs rq block turn alphas else ",
         table::column_of(kind) as u64,
     )
 }
@@ -122,6 +151,17 @@ fn action_no(action: Action) -> u64 {
         Action::Called2 => 22,
         Action::CallStops => 23,
         Action::CallOn => 24,
+        Action::Identify => 25,
+        Action::Call3Ends => 26,
+        Action::Call3Stops => 27,
+        Action::Call3On => 28,
+        Action::TakeIfLast => 29,
+        Action::TurnIfLast => 30,
+        Action::Compare => 31,
+        Action::BlockAgain => 32,
+        Action::MeetIfLast => 33,
+        Action::Leave => 34,
+        Action::Gather => 35,
     }
 }
 
@@ -131,7 +171,7 @@ fn put_action(line: &mut [u8], at: usize, action: Action) -> usize {
     put_name(
         line,
         to,
-        b"asked-1 asked-2 turn rqs turn-again receive receive-if-slave take-1 take-2 stand-by request ended-1 ended-2 end-again accept ask-again finish cs3-again open listen silent called-1 called-2 call-stops call-on ",
+        b"asked-1 asked-2 turn rqs turn-again receive receive-if-slave take-1 take-2 stand-by request ended-1 ended-2 end-again accept ask-again finish cs3-again open listen silent called-1 called-2 call-stops call-on identify call3-ends call3-stops call3-on take-if-last turn-if-last compare block-again meet-if-last leave gather ",
         action_no(action),
     )
 }
@@ -148,8 +188,8 @@ fn put_cell(stream: Stream, output: &mut [u8], place: Place, kind: Kind) -> Stre
 fn put_table(first: Stream, output: &mut [u8]) -> Stream {
     let mut stream = first;
     let mut cell: u64 = 0;
-    while cell < 108 {
-        stream = put_cell(stream, output, place_at(cell / 12), kind_at(cell % 12));
+    while cell < 216 {
+        stream = put_cell(stream, output, place_at(cell / 18), kind_at(cell % 18));
         cell += 1;
     }
     stream

@@ -1,8 +1,7 @@
-// How a station stands after a step (01, The station; 02, T-02): at which place, with which count, case and +, and who is at the other
-// end; and a repetition, which the count is for. What no step changes, the own identity, is handed on as one piece.
+// How a station stands after a step (01, The station; 02, T-02 and T-05): at which place, with which count, case and +, and who is at the
+// other end; and a repetition, which the count is for. What no step changes, the own identities, is handed on as one piece.
 ghost use mathlib.Core.Path.{_≡_};
-ghost use Rattle.mode_a.specs.Step.{standsAt, movedTo, cancelledTo, heardAt, rested, begun, reached, sends, repeats};
-use mode_a::Identity;
+ghost use Rattle.mode_a.specs.Step.{standsAt, movedTo, cancelledTo, heardAt, leftAt, waitAt, rested, begun, knowing, sends, repeats, again};
 use mode_a::Listening;
 use mode_a::Mark;
 use mode_a::Peer;
@@ -10,6 +9,7 @@ use mode_a::Place;
 use mode_a::Reply;
 use mode_a::Role;
 use mode_a::Station;
+use mode_a::Succession;
 use mode_a::Waiting;
 use mode_a::Words;
 use signals::Case;
@@ -56,24 +56,50 @@ pub fn heard_at(s: Station, place: Place, l: Listening) -> Station
     stands_at(s, place, 0, case, l.plus)
 }
 
-// The station at Stand-by, with so many steps to wait and nobody at the other end.
+// Who is at the other end of a station that goes to Stand-by: nobody, but an identity that is barred stays so.
+fn left_at(other: Peer) -> Peer
+    ensures { λ r. ⌜ r ≡ leftAt other ⌝ }
+{
+    match other {
+        Peer::Nobody => Peer::Nobody,
+        Peer::Four(_) => Peer::Nobody,
+        Peer::Known(_) => Peer::Nobody,
+        Peer::Barred(_) => other,
+    }
+}
+
+// How many steps it waits there: the 128 where an identity is barred.
+fn wait_at(other: Peer, wait: u8) -> u8
+    ensures { λ r. ⌜ r ≡ waitAt other wait ⌝ }
+{
+    match other {
+        Peer::Nobody => wait,
+        Peer::Four(_) => wait,
+        Peer::Known(_) => wait,
+        Peer::Barred(_) => Station::CALLS,
+    }
+}
+
+// The station at Stand-by, with so many steps to wait and nobody at the other end; or with an identity barred, and the steps of that.
 pub fn rested(s: Station, wait: u8) -> Station
     ensures { λ r. ⌜ r ≡ rested s wait ⌝ }
 {
     let role = s.role;
     let case = s.case;
     let own = s.own;
+    let other = s.other;
     Station {
         role: role,
         place: Place::StandBy(Waiting {
-            wait: wait,
+            wait: wait_at(other, wait),
             heard: Mark::None,
+            heard3: Succession::None,
         }),
         count: 0,
         case: case,
         plus: s.plus,
         own: own,
-        other: Peer::Nobody,
+        other: left_at(other),
     }
 }
 
@@ -93,9 +119,9 @@ pub fn begun(s: Station, role: Role, place: Place) -> Station
     }
 }
 
-// The station that knows who is at the other end: the identity that it called.
-pub fn reached(s: Station, four: Identity) -> Station
-    ensures { λ r. ⌜ r ≡ reached s four ⌝ }
+// The same station, this being at the other end.
+pub fn knowing(s: Station, other: Peer) -> Station
+    ensures { λ r. ⌜ r ≡ knowing s other ⌝ }
 {
     let role = s.role;
     let place = s.place;
@@ -108,7 +134,7 @@ pub fn reached(s: Station, four: Identity) -> Station
         case: case,
         plus: s.plus,
         own: own,
-        other: Peer::Four(four),
+        other: other,
     }
 }
 
@@ -135,4 +161,15 @@ pub fn repeats(s: Station, words: Words) -> Reply
     let place = s.place;
     let case = s.case;
     sends(stands_at(s, place, count + 1, case, s.plus), words)
+}
+
+// A repetition in identification, at the same place, standing so: the 32nd leads to Stand-by.
+pub fn again(s: Station, place: Place, words: Words) -> Reply
+    ensures { λ r. ⌜ r ≡ again s place words ⌝ }
+{
+    if Station::LIMIT - 1 <= s.count {
+        return sends(rested(s, 0), mode_a::SILENCE);
+    }
+    let case = s.case;
+    sends(stands_at(s, place, s.count + 1, case, s.plus), words)
 }

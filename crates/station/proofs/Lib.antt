@@ -1,3 +1,3 @@
 -- Laws that the station's proofs share.
---     PartLaws   the promise of the step at each answer
+--     PartLaws   what is done is what the row says; the promise of the step at each answer
 mod PartLaws

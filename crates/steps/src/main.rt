@@ -1,8 +1,12 @@
 // One step a record of a station that is written out, so that stations can be tried that no run reaches (docs/FORMATS.md).
 use filters::Stream;
+use identity::Seven;
 use mode_a::Called;
+use mode_a::Called3;
 use mode_a::Ended;
+use mode_a::Gathered;
 use mode_a::Held;
+use mode_a::Identified;
 use mode_a::Identity;
 use mode_a::Mark;
 use mode_a::Number;
@@ -12,8 +16,10 @@ use mode_a::Peer;
 use mode_a::Place;
 use mode_a::Reply;
 use mode_a::Role;
+use mode_a::Stage;
 use mode_a::Station;
 use mode_a::Stepped;
+use mode_a::Succession;
 use mode_a::Waiting;
 use mode_a::Words;
 
@@ -30,7 +36,18 @@ pub struct CallFields {
     pub to: Identity,
 }
 
+// And of identification.
+pub struct TellFields {
+    pub heard3: u8,
+    pub stage: u8,
+    pub wrong: u8,
+    pub last: u8,
+    pub signals: Seven,
+}
+
 const NO_IDENTITY: Identity = Identity(0, 0, 0, 0);
+
+const NO_SEVEN: Seven = Seven(0, 0, 0, 0, 0, 0, 0);
 
 fn role_of(byte: u8) -> Role {
     if byte % 2 == 0 {
@@ -54,9 +71,41 @@ fn mark_of(byte: u8) -> Mark {
     }
 }
 
-fn place_of(record: &[u8; 32]) -> Place {
+fn succession_of(byte: u8) -> Succession {
+    match byte % 5 {
+        0 => Succession::None,
+        1 => Succession::One,
+        2 => Succession::OneTwo,
+        3 => Succession::Two,
+        _ => Succession::TwoThree,
+    }
+}
+
+fn stage_of(byte: u8) -> Stage {
+    match byte % 4 {
+        0 => Stage::One,
+        1 => Stage::Two,
+        2 => Stage::Three,
+        _ => Stage::Four,
+    }
+}
+
+// The identity called, or what is gathered.
+fn signals_of(record: &[u8; 60]) -> Seven {
+    Seven(
+        record[49],
+        record[50],
+        record[51],
+        record[52],
+        record[53],
+        record[54],
+        record[55],
+    )
+}
+
+fn place_of(record: &[u8; 60]) -> Place {
     let number = number_of(record[2]);
-    match record[1] % 9 {
+    match record[1] % 12 {
         0 => Place::Sending(Held {
             number: number,
             block: Words(record[3], record[4], record[5]),
@@ -72,24 +121,50 @@ fn place_of(record: &[u8; 32]) -> Place {
         6 => Place::StandBy(Waiting {
             wait: record[17],
             heard: mark_of(record[18]),
+            heard3: succession_of(record[45]),
         }),
         7 => Place::Lost,
-        _ => Place::Calling(Called {
+        8 => Place::Calling(Called {
             to: Identity(record[3], record[4], record[5], record[6]),
             sent: record[17],
             last: mark_of(record[18]),
         }),
+        9 => Place::Calling3(Called3 {
+            to: signals_of(record),
+            sent: record[17],
+        }),
+        10 => Place::Identifying(Identified {
+            to: signals_of(record),
+            stage: stage_of(record[46]),
+            wrong: record[47],
+            last: record[48],
+        }),
+        _ => Place::Answering(Gathered {
+            stage: stage_of(record[46]),
+            got: signals_of(record),
+        }),
     }
 }
 
-fn other_of(record: &[u8; 32]) -> Peer {
-    if record[23] % 2 == 0 {
-        return Peer::Nobody;
+fn other_of(record: &[u8; 60]) -> Peer {
+    let seven = Seven(
+        record[24],
+        record[25],
+        record[26],
+        record[27],
+        record[39],
+        record[40],
+        record[41],
+    );
+    match record[23] % 4 {
+        0 => Peer::Nobody,
+        1 => Peer::Four(Identity(record[24], record[25], record[26], record[27])),
+        2 => Peer::Known(seven),
+        _ => Peer::Barred(seven),
     }
-    Peer::Four(Identity(record[24], record[25], record[26], record[27]))
 }
 
-fn station_of(record: &[u8; 32]) -> Station {
+fn station_of(record: &[u8; 60]) -> Station {
     Station {
         role: role_of(record[0]),
         place: place_of(record),
@@ -98,18 +173,36 @@ fn station_of(record: &[u8; 32]) -> Station {
         plus: record[9] % 2 == 1,
         own: Own {
             four: Identity(record[19], record[20], record[21], record[22]),
+            seven: Seven(
+                record[32],
+                record[33],
+                record[34],
+                record[35],
+                record[36],
+                record[37],
+                record[38],
+            ),
         },
         other: other_of(record),
     }
 }
 
-fn offer_of(record: &[u8; 32]) -> Offer {
-    match record[13] % 5 {
+fn offer_of(record: &[u8; 60]) -> Offer {
+    match record[13] % 6 {
         0 => Offer::Nothing,
         1 => Offer::Text(Words(record[14], record[15], record[16])),
         2 => Offer::Over,
         3 => Offer::End,
-        _ => Offer::Call(Identity(record[28], record[29], record[30], record[31])),
+        4 => Offer::Call(Identity(record[28], record[29], record[30], record[31])),
+        _ => Offer::Call3(Seven(
+            record[28],
+            record[29],
+            record[30],
+            record[31],
+            record[42],
+            record[43],
+            record[44],
+        )),
     }
 }
 
@@ -126,6 +219,12 @@ fn put_identity(line: &mut [u8], at: usize, identity: Identity) -> usize {
     fields::put_number(line, three, identity.3)
 }
 
+fn put_seven(line: &mut [u8], at: usize, seven: Seven) -> usize {
+    let one = put_words(line, at, Words(seven.0, seven.1, seven.2));
+    let two = put_words(line, one, Words(seven.3, seven.4, seven.5));
+    fields::put_number(line, two, seven.6)
+}
+
 fn number_in(number: Number) -> u8 {
     match number {
         Number::One => 1,
@@ -138,6 +237,25 @@ fn mark_in(mark: Mark) -> u8 {
         Mark::None => 0,
         Mark::One => 1,
         Mark::Two => 2,
+    }
+}
+
+fn succession_in(heard: Succession) -> u8 {
+    match heard {
+        Succession::None => 0,
+        Succession::One => 1,
+        Succession::OneTwo => 2,
+        Succession::Two => 3,
+        Succession::TwoThree => 4,
+    }
+}
+
+fn stage_in(stage: Stage) -> u8 {
+    match stage {
+        Stage::One => 1,
+        Stage::Two => 2,
+        Stage::Three => 3,
+        Stage::Four => 4,
     }
 }
 
@@ -183,6 +301,9 @@ fn fields_of(place: Place) -> Fields {
         Place::StandBy(_) => bare(),
         Place::Lost => bare(),
         Place::Calling(_) => bare(),
+        Place::Calling3(_) => bare(),
+        Place::Identifying(_) => bare(),
+        Place::Answering(_) => bare(),
     }
 }
 
@@ -220,6 +341,71 @@ fn call_fields_of(place: Place) -> CallFields {
                 to,
             }
         }
+        Place::Calling3(called) => CallFields {
+            cycles: called.sent,
+            last: 0,
+            to: NO_IDENTITY,
+        },
+        Place::Identifying(_) => no_call(),
+        Place::Answering(_) => no_call(),
+    }
+}
+
+fn not_told() -> TellFields {
+    TellFields {
+        heard3: 0,
+        stage: 0,
+        wrong: 0,
+        last: 0,
+        signals: NO_SEVEN,
+    }
+}
+
+fn tell_fields_of(place: Place) -> TellFields {
+    match place {
+        Place::StandBy(waiting) => {
+            let heard3 = waiting.heard3;
+            TellFields {
+                heard3: succession_in(heard3),
+                stage: 0,
+                wrong: 0,
+                last: 0,
+                signals: NO_SEVEN,
+            }
+        }
+        Place::Calling3(called) => {
+            let to = called.to;
+            TellFields {
+                heard3: 0,
+                stage: 0,
+                wrong: 0,
+                last: 0,
+                signals: to,
+            }
+        }
+        Place::Identifying(identified) => {
+            let to = identified.to;
+            let stage = identified.stage;
+            TellFields {
+                heard3: 0,
+                stage: stage_in(stage),
+                wrong: identified.wrong,
+                last: identified.last,
+                signals: to,
+            }
+        }
+        Place::Answering(gathered) => {
+            let got = gathered.got;
+            let stage = gathered.stage;
+            TellFields {
+                heard3: 0,
+                stage: stage_in(stage),
+                wrong: 0,
+                last: 0,
+                signals: got,
+            }
+        }
+        _ => not_told(),
     }
 }
 
@@ -244,6 +430,11 @@ fn put_role(line: &mut [u8], at: usize, role: Role) -> usize {
     }
 }
 
+// The first four signals of who is at the other end, and the last three, which stand at the end of the line.
+fn first_four(seven: Seven) -> Identity {
+    Identity(seven.0, seven.1, seven.2, seven.3)
+}
+
 fn put_other(line: &mut [u8], at: usize, other: Peer) -> usize {
     match other {
         Peer::Nobody => numbers::put_all(line, at, b" nobody 0 0 0 0"),
@@ -251,6 +442,23 @@ fn put_other(line: &mut [u8], at: usize, other: Peer) -> usize {
             let to = numbers::put_all(line, at, b" four");
             put_identity(line, to, identity)
         }
+        Peer::Known(seven) => {
+            let to = numbers::put_all(line, at, b" seven");
+            put_identity(line, to, first_four(seven))
+        }
+        Peer::Barred(seven) => {
+            let to = numbers::put_all(line, at, b" barred");
+            put_identity(line, to, first_four(seven))
+        }
+    }
+}
+
+fn last_three(other: Peer) -> Words {
+    match other {
+        Peer::Nobody => mode_a::SILENCE,
+        Peer::Four(_) => mode_a::SILENCE,
+        Peer::Known(seven) => Words(seven.4, seven.5, seven.6),
+        Peer::Barred(seven) => Words(seven.4, seven.5, seven.6),
     }
 }
 
@@ -275,6 +483,21 @@ fn put_calls(line: &mut [u8], from: usize, s: Station) -> usize {
     put_other(line, at, other)
 }
 
+// What the place has of identification, and the last three signals of who is at the other end.
+fn put_told(line: &mut [u8], from: usize, s: Station) -> usize {
+    let place = s.place;
+    let other = s.other;
+    let shown = tell_fields_of(place);
+    let signals = shown.signals;
+    let mut at = numbers::put_all(line, from, b" |");
+    at = fields::put_number(line, at, shown.heard3);
+    at = fields::put_number(line, at, shown.stage);
+    at = fields::put_number(line, at, shown.wrong);
+    at = fields::put_number(line, at, shown.last);
+    at = put_seven(line, at, signals);
+    put_words(line, at, last_three(other))
+}
+
 fn put_reply(line: &mut [u8], reply: Reply) -> usize {
     let station = reply.station;
     let sent = reply.sent;
@@ -284,7 +507,8 @@ fn put_reply(line: &mut [u8], reply: Reply) -> usize {
     at = put_part(line, at, printed);
     at = numbers::put_all(line, at, b" |");
     at = fields::put_flag(line, at, reply.taken);
-    put_calls(line, at, station)
+    at = put_calls(line, at, station);
+    put_told(line, at, station)
 }
 
 fn put_answer(line: &mut [u8], stepped: Stepped) -> usize {
@@ -296,11 +520,11 @@ fn put_answer(line: &mut [u8], stepped: Stepped) -> usize {
     }
 }
 
-fn answer(stream: Stream, output: &mut [u8], record: &[u8; 32]) -> Stream {
+fn answer(stream: Stream, output: &mut [u8], record: &[u8; 60]) -> Stream {
     let burst = Words(record[10], record[11], record[12]);
     let stepped = station::step(station_of(record), burst, offer_of(record));
     // no line comes to be full
-    let mut line = [0u8; 160];
+    let mut line = [0u8; 224];
     let mut at = put_answer(&mut line, stepped);
     at = numbers::put(&mut line, at, 10);
     stream.put_line(output, &line, at)
@@ -308,10 +532,10 @@ fn answer(stream: Stream, output: &mut [u8], record: &[u8; 32]) -> Stream {
 
 // The next record read and answered. A short last one is ignored.
 fn turn(stream: Stream, input: &mut [u8], output: &mut [u8]) -> Stream {
-    let mut record = [0u8; 32];
-    let read = stream.record(input, output, &mut record, 32);
+    let mut record = [0u8; 60];
+    let read = stream.record(input, output, &mut record, 60);
     let after = read.stream;
-    if read.count != 32 {
+    if read.count != 60 {
         return after;
     }
     answer(after, output, &record)

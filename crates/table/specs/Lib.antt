@@ -1,5 +1,5 @@
 -- The code's columns and cells, beside the rows of `mode_a`.
---     Kinds     the twelve kinds of burst, and what the rows can ask of each
+--     Kinds     the eighteen kinds of burst, and what the rows can ask of each
 --     Actions   the cell of each place at each kind
 pub mod Kinds
 pub mod Actions

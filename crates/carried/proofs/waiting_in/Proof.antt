@@ -2,13 +2,14 @@
 use borrow.Author.Needs.{needs}
 use Rattle.carried.proofs.waiting_in.Statement.{statement}
 use Rattle.carried.proofs.waiting_in.Tie as tie
-use Rattle.carried.proofs.waiting_in.Reads as reads
-use Rattle.carried.proofs.waiting_in.Lts as lts
 
 pub waiting-in-spec : {M : Type 1} → statement M
 waiting-in-spec =
     tie.close
     (tie.spec
+    (λ c. search needs)
+    (λ c. search needs)
+    (λ c. search needs)
     (λ c. search needs)
     (λ c. search needs)
     (λ c. search needs)
@@ -26,4 +27,7 @@ waiting-in-spec =
     (λ c. simp (c .enum-told6 .given .1))
     (λ c. search needs)
     (λ c. simp (c .enum-told7 .given .1))
-    (λ c. simp (c .enum-told8 .given .1)))
+    (λ c. simp (c .enum-told8 .given .1))
+    (λ c. simp (c .enum-told9 .given .1))
+    (λ c. simp (c .enum-told10 .given .1))
+    (λ c. simp (c .enum-told11 .given .1)))

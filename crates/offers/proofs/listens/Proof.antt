@@ -6,6 +6,7 @@ use Rattle.offers.proofs.listens.Tie as tie
 use Rattle.offers.proofs.listens.Reads as reads
 use Rattle.offers.proofs.listens.Lts as lts
 use Rattle.offers.proofs.called.Reads as called-reads
+use Rattle.offers.proofs.listens3.Reads as listens3-reads
 use Rattle.offers.proofs.waits_on.Reads as waits-on-reads
 
 enum-told : tie.Need-enum-told
@@ -44,6 +45,12 @@ returns c = rw (c .before .before .before .before .offer .given .1, eq-eqb _ _ (
 waits-on-requires-5 : tie.Need-waits-on-requires-5
 waits-on-requires-5 c κs = search needs
 
+enum-known-offer-2 : tie.Need-enum-known-offer-2
+enum-known-offer-2 c = search needs
+
+listens3-requires : tie.Need-listens3-requires
+listens3-requires c κs = search needs
+
 returns-2 : tie.Need-returns-2
 returns-2 c = simp (c .waits-on .ensures, c .before .enum-told .given .1)
 
@@ -58,6 +65,9 @@ returns-5 c = simp (c .waits-on4 .ensures, c .before .enum-told4 .given .1)
 
 returns-6 : tie.Need-returns-6
 returns-6 c = rw (c .before .before .before .before .offer .given .1, ne-eqb _ _ (c .before .if1 .left)) (c .waits-on5 .ensures)
+
+returns-7 : tie.Need-returns-7
+returns-7 c = simp (c .listens3 .ensures, c .before .before .offer2 .given .1)
 
 pub listens-spec : {M : Type 1} → statement M
 listens-spec =
@@ -75,8 +85,11 @@ listens-spec =
     called-requires
     returns
     waits-on-requires-5
+    enum-known-offer-2
+    listens3-requires
     returns-2
     returns-3
     returns-4
     returns-5
-    returns-6)
+    returns-6
+    returns-7)

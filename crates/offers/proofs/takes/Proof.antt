@@ -37,6 +37,12 @@ enum-told-4 c = search needs
 holds-requires-4 : tie.Need-holds-requires-4
 holds-requires-4 c κs = search needs
 
+enum-told-5 : tie.Need-enum-told-5
+enum-told-5 c = search needs
+
+holds-requires-5 : tie.Need-holds-requires-5
+holds-requires-5 c κs = search needs
+
 returns : tie.Need-returns
 returns c = simp (c .holds .ensures, c .before .before .offer .given .1)
 
@@ -52,6 +58,9 @@ returns-4 c = simp (c .holds3 .ensures, c .before .enum-told3 .given .1)
 returns-5 : tie.Need-returns-5
 returns-5 c = simp (c .holds4 .ensures, c .before .enum-told4 .given .1)
 
+returns-6 : tie.Need-returns-6
+returns-6 c = simp (c .holds5 .ensures, c .before .enum-told5 .given .1)
+
 pub takes-spec : {M : Type 1} → statement M
 takes-spec =
     tie.close
@@ -66,8 +75,11 @@ takes-spec =
     holds-requires-3
     enum-told-4
     holds-requires-4
+    enum-told-5
+    holds-requires-5
     returns
     returns-2
     returns-3
     returns-4
-    returns-5)
+    returns-5
+    returns-6)

@@ -6,15 +6,21 @@ use Rattle.replies.proofs.done.Tie as tie
 use Rattle.replies.proofs.done.Reads as reads
 use Rattle.replies.proofs.done.Lts as lts
 use Rattle.acceptance.proofs.accepts.Reads as accepts-reads
+use Rattle.meeting.proofs.answers3.Reads as answers3-reads
+use Rattle.meeting.proofs.bars.Reads as bars-reads
+use Rattle.meeting.proofs.ends.Reads as ends-reads
+use Rattle.meeting.proofs.meets.Reads as meets-reads
+use Rattle.meeting.proofs.turns.Reads as turns-reads
+use Rattle.offers.proofs.listens.Reads as listens-reads
+use Rattle.offers.proofs.takes.Reads as takes-reads
 use Rattle.replies.proofs.answers.Reads as answers-reads
 use Rattle.replies.proofs.goes.Reads as goes-reads
 use Rattle.replies.proofs.opens.Reads as opens-reads
 use Rattle.replies.proofs.reaches.Reads as reaches-reads
 use Rattle.replies.proofs.receives.Reads as receives-reads
 use Rattle.replies.proofs.rests.Reads as rests-reads
+use Rattle.stands.proofs.again.Reads as again-reads
 use Rattle.stands.proofs.repeats.Reads as repeats-reads
-use Rattle.offers.proofs.listens.Reads as listens-reads
-use Rattle.offers.proofs.takes.Reads as takes-reads
 
 enum-known-doing : tie.Need-enum-known-doing
 enum-known-doing c = search needs
@@ -76,6 +82,42 @@ enum-known-doing-8 c = search needs
 reaches-requires : tie.Need-reaches-requires
 reaches-requires c κs = search needs
 
+enum-told-3 : tie.Need-enum-told-3
+enum-told-3 c = search needs
+
+answers3-requires : tie.Need-answers3-requires
+answers3-requires c κs = search needs
+
+enum-known-doing-9 : tie.Need-enum-known-doing-9
+enum-known-doing-9 c = search needs
+
+bars-requires : tie.Need-bars-requires
+bars-requires c κs = search needs
+
+enum-known-doing-10 : tie.Need-enum-known-doing-10
+enum-known-doing-10 c = search needs
+
+ends-requires : tie.Need-ends-requires
+ends-requires c κs = search needs
+
+enum-known-doing-11 : tie.Need-enum-known-doing-11
+enum-known-doing-11 c = search needs
+
+turns-requires : tie.Need-turns-requires
+turns-requires c κs = search needs
+
+enum-known-doing-12 : tie.Need-enum-known-doing-12
+enum-known-doing-12 c = search needs
+
+meets-requires : tie.Need-meets-requires
+meets-requires c κs = search needs
+
+enum-known-doing-13 : tie.Need-enum-known-doing-13
+enum-known-doing-13 c = search needs
+
+again-requires : tie.Need-again-requires
+again-requires c κs = search needs
+
 returns : tie.Need-returns
 unfolding done
 returns c = simp (c .repeats .ensures, c .before .before .doing .given .1)
@@ -116,6 +158,30 @@ returns-10 : tie.Need-returns-10
 unfolding done
 returns-10 c = simp (c .reaches .ensures, c .before .before .doing8 .given .1)
 
+returns-11 : tie.Need-returns-11
+unfolding done
+returns-11 c = simp (c .answers3 .ensures, c .before .enum-told3 .given .1)
+
+returns-12 : tie.Need-returns-12
+unfolding done
+returns-12 c = simp (c .bars .ensures, c .before .before .doing9 .given .1)
+
+returns-13 : tie.Need-returns-13
+unfolding done
+returns-13 c = simp (c .ends .ensures, c .before .before .doing10 .given .1)
+
+returns-14 : tie.Need-returns-14
+unfolding done
+returns-14 c = simp (c .turns .ensures, c .before .before .doing11 .given .1)
+
+returns-15 : tie.Need-returns-15
+unfolding done
+returns-15 c = simp (c .meets .ensures, c .before .before .doing12 .given .1)
+
+returns-16 : tie.Need-returns-16
+unfolding done
+returns-16 c = simp (c .again .ensures, c .before .before .doing13 .given .1)
+
 pub done-spec : {M : Type 1} → statement M
 done-spec =
     tie.close
@@ -140,6 +206,18 @@ done-spec =
     listens-requires
     enum-known-doing-8
     reaches-requires
+    enum-told-3
+    answers3-requires
+    enum-known-doing-9
+    bars-requires
+    enum-known-doing-10
+    ends-requires
+    enum-known-doing-11
+    turns-requires
+    enum-known-doing-12
+    meets-requires
+    enum-known-doing-13
+    again-requires
     returns
     returns-2
     returns-3
@@ -149,4 +227,10 @@ done-spec =
     returns-7
     returns-8
     returns-9
-    returns-10)
+    returns-10
+    returns-11
+    returns-12
+    returns-13
+    returns-14
+    returns-15
+    returns-16)

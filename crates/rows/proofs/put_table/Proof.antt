@@ -10,7 +10,7 @@ pub put-table-spec : {M : Type 1} → statement M
 put-table-spec =
     tie.close
     (tie.spec
-    (λ output₀ stream₀ cell₀ output stream cell. (length output ≡ length output₀) × (cell ≤ 108))
-    (λ output₀ stream₀ cell₀ output stream cell. 108 - cell)
+    (λ output₀ stream₀ cell₀ output stream cell. (length output ≡ length output₀) × (cell ≤ 216))
+    (λ output₀ stream₀ cell₀ output stream cell. 216 - cell)
     (search needs) (search needs) (search needs) (search needs) (search needs)
     (search needs) (search needs) (search needs) (search needs))

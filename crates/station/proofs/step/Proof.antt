@@ -1,25 +1,19 @@
 -- `station::step` meets its contract: the refusals in 02's and 01's order, and else what the row says, by the table and its actions.
 -- Assumes nothing.
-use mathlib.Core.Path.{ap, sym, _∙_}
+use mathlib.Core.Path.{sym, _∙_}
 use native.Mathlib.Omega.{arith}
 use borrow.Author.Tests.{not-true, not-false}
-use Rattle.mode_a.specs.Heard.{callOf}
-use Rattle.mode_a.specs.Step.{done}
-use Rattle.table.specs.declared.Action.{Action}
-use Rattle.table.specs.Actions.{actionOf}
-use Rattle.moves.specs.Moves.{doingOf}
-use Rattle.moves.proofs.RowLaws.{rows-agree}
-use Rattle.station.proofs.PartLaws.{bad-call, bad-station, bad-word, step-done}
+use Rattle.station.proofs.PartLaws.{done-by-row, bad-call, bad-station, bad-word, step-done}
 use borrow.Author.Needs.{needs}
 use Rattle.station.proofs.step.Statement.{statement}
 use Rattle.station.proofs.step.Tie as tie
 use Rattle.station.proofs.step.Reads as reads
 use Rattle.station.proofs.step.Lts as lts
-use Rattle.moves.proofs.doing.Reads as doing-reads
+use Rattle.doings.proofs.doing.Reads as doing-reads
+use Rattle.refusals.proofs.bad_call.Reads as bad-call-reads
+use Rattle.refusals.proofs.bad_offer.Reads as bad-offer-reads
+use Rattle.refusals.proofs.sound.Reads as sound-reads
 use Rattle.replies.proofs.done.Reads as done-reads
-use Rattle.station.proofs.bad_call.Reads as bad-call-reads
-use Rattle.station.proofs.bad_offer.Reads as bad-offer-reads
-use Rattle.station.proofs.sound.Reads as sound-reads
 use Rattle.table.proofs.action_at.Reads as action-at-reads
 use Rattle.table.proofs.kind_of.Reads as kind-of-reads
 
@@ -62,15 +56,8 @@ done-requires c κs = search needs
 returns-4 : tie.Need-returns-4
 returns-4 c =
     let a = c .before .before .before .before .before .before .before .before .before .before .before in
-    let k = c .before .before .before .kind-of in
-    let t = c .before .before .action-at in
-    let d = c .before .doing in
     step-done (a .args .s) (a .args .burst) (a .args .offer) (c .before .before .before .before .before .before .before .before .before .before .bad-call .result) (c .before .before .before .before .before .before .before .before .before .before .bad-call .ensures) (c .before .before .before .before .before .before .before .before .before .if1 .left) (sym (c .before .before .before .before .before .before .before .before .sound .ensures) ∙ not-false _ (c .before .before .before .before .before .before .before .if2 .left)) (c .before .before .before .before .before .before .bad-offer .result) (c .before .before .before .before .before .before .bad-offer .ensures) (c .before .before .before .before .before .if3 .left) (c .done .result)
-    (c .done .ensures
-    ∙ ap (done (a .args .s) (a .args .burst) (a .args .offer))
-    (d .ensures
-    ∙ ap (λ (x : Action). doingOf x (a .args .s .role) (a .args .s .place) (callOf (a .args .s .own .four) (a .args .burst))) (t .ensures ∙ ap (actionOf (a .args .s .place)) (k .ensures))
-    ∙ rows-agree (a .args .s .role) (a .args .s .place) (a .args .s .own) (a .args .burst)))
+    (done-by-row (a .args .s) (a .args .burst) (a .args .offer) (c .before .before .before .before .kind-of .result) (c .before .before .before .before .kind-of .ensures) (c .before .before .before .action-at .result) (c .before .before .before .action-at .ensures) (c .before .doing .result) (c .before .doing .ensures) (c .done .result) (c .done .ensures))
 
 pub step-spec : {M : Type 1} → statement M
 step-spec =

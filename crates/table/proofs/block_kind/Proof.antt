@@ -1,9 +1,12 @@
 -- `table::block_kind` meets its contract, test by test. Assumes nothing.
-use Rattle.mode_a.proofs.HeardLaws.{first-cs1, first-cs2, first-cs3, first-rq, first-else}
+use mathlib.Core.Path.{sym, _∙_}
+use borrow.Author.Needs.{needs}
+use Rattle.mode_a.proofs.HeardLaws.{first-cs1, first-cs2, first-cs3, first-rq, first-else, further-cs4, further-cs5, further-letter, further-other}
 use Rattle.table.proofs.block_kind.Statement.{statement}
 use Rattle.table.proofs.block_kind.Tie as tie
 use Rattle.table.proofs.block_kind.Reads as reads
 use Rattle.table.proofs.block_kind.Lts as lts
+use Rattle.identity.proofs.may_identify.Reads as may-identify-reads
 
 returns : tie.Need-returns
 returns c = rw (first-cs1 _ (c .if1 .taken))
@@ -19,7 +22,24 @@ returns-4 c = rw (first-rq _ (c .if4 .taken))
 
 returns-5 : tie.Need-returns-5
 returns-5 c =
-    rw (first-else _ (c .before .before .before .if1 .left) (c .before .before .if2 .left) (c .before .if3 .left) (c .if4 .left))
+    rw (first-else _ (c .before .before .before .before .if1 .left) (c .before .before .before .if2 .left) (c .before .before .if3 .left) (c .before .if4 .left), further-cs4 _ (c .if5 .taken))
+
+returns-6 : tie.Need-returns-6
+returns-6 c =
+    rw (first-else _ (c .before .before .before .before .before .if1 .left) (c .before .before .before .before .if2 .left) (c .before .before .before .if3 .left) (c .before .before .if4 .left), further-cs5 _ (c .if6 .taken))
+
+may-identify-requires : tie.Need-may-identify-requires
+may-identify-requires c κs = search needs
+
+returns-7 : tie.Need-returns-7
+returns-7 c =
+    rw (first-else _ (c .before .before .before .before .before .before .before .if1 .left) (c .before .before .before .before .before .before .if2 .left) (c .before .before .before .before .before .if3 .left) (c .before .before .before .before .if4 .left), further-letter _ (c .before .before .before .if5 .left) (c .before .before .if6 .left) (sym (c .before .may-identify .ensures) ∙ c .if7 .taken))
+
+returns-8 : tie.Need-returns-8
+returns-8 c =
+    rw (first-else _ (c .before .before .before .before .before .before .before .if1 .left) (c .before .before .before .before .before .before .if2 .left) (c .before .before .before .before .before .if3 .left) (c .before .before .before .before .if4 .left), further-other _ (c .before .before .before .if5 .left) (c .before .before .if6 .left) (sym (c .before .may-identify .ensures) ∙ c .if7 .left))
 
 pub block-kind-spec : {M : Type 1} → statement M
-block-kind-spec = tie.close (tie.spec returns returns-2 returns-3 returns-4 returns-5)
+block-kind-spec =
+    tie.close
+    (tie.spec returns returns-2 returns-3 returns-4 returns-5 returns-6 may-identify-requires returns-7 returns-8)

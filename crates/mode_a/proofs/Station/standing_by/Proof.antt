@@ -7,14 +7,12 @@ use Rattle.mode_a.proofs.Station.standing_by.Reads as reads
 use Rattle.mode_a.proofs.Station.standing_by.Lts as lts
 use Rattle.mode_a.proofs.Identity.first_outside.Reads as first-outside-reads
 
-first-outside-requires : tie.Need-first-outside-requires
-first-outside-requires c κs = search needs
-
 returns : tie.Need-returns
 returns c = outside _ _ (c .before .first-outside .ensures) (c .if1 .taken)
 
 returns-2 : tie.Need-returns-2
-returns-2 c = stands _ _ (c .before .first-outside .ensures) (c .if1 .left)
+returns-2 c =
+    rw (c .fresh-at .ensures) (stands _ _ (c .before .before .first-outside .ensures) (c .before .if1 .left))
 
 pub standing-by-spec : {M : Type 1} → statement M
-standing-by-spec = tie.close (tie.spec first-outside-requires returns returns-2)
+standing-by-spec = tie.close (tie.spec (λ c κs. search needs) returns (λ c κs. search needs) returns-2)

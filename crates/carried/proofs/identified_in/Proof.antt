@@ -1,0 +1,33 @@
+-- `carried::identified_in` meets its contract, place by place. Assumes nothing.
+use borrow.Author.Needs.{needs}
+use Rattle.carried.proofs.identified_in.Statement.{statement}
+use Rattle.carried.proofs.identified_in.Tie as tie
+
+pub identified-in-spec : {M : Type 1} → statement M
+identified-in-spec =
+    tie.close
+    (tie.spec
+    (λ c. search needs)
+    (λ c. search needs)
+    (λ c. search needs)
+    (λ c. search needs)
+    (λ c. search needs)
+    (λ c. search needs)
+    (λ c. search needs)
+    (λ c. search needs)
+    (λ c. search needs)
+    (λ c. search needs)
+    (λ c. search needs)
+    (λ c. search needs)
+    (λ c. simp (c .enum-told .given .1))
+    (λ c. simp (c .enum-told2 .given .1))
+    (λ c. simp (c .enum-told3 .given .1))
+    (λ c. simp (c .enum-told4 .given .1))
+    (λ c. simp (c .enum-told5 .given .1))
+    (λ c. simp (c .enum-told6 .given .1))
+    (λ c. simp (c .enum-told7 .given .1))
+    (λ c. simp (c .enum-told8 .given .1))
+    (λ c. simp (c .enum-told9 .given .1))
+    (λ c. simp (c .enum-told10 .given .1))
+    (λ c. simp (c .before .place .given .1))
+    (λ c. simp (c .enum-told11 .given .1)))

@@ -1,0 +1,21 @@
+-- `identifying::identity_block` meets its contract, stage by stage. Assumes nothing.
+use borrow.Author.Needs.{needs}
+use Rattle.identifying.proofs.identity_block.Statement.{statement}
+use Rattle.identifying.proofs.identity_block.Tie as tie
+
+returns : tie.Need-returns
+returns c = simp (c .enum-told .given .1)
+
+returns-2 : tie.Need-returns-2
+returns-2 c = simp (c .enum-told2 .given .1)
+
+returns-3 : tie.Need-returns-3
+returns-3 c = simp (c .enum-told3 .given .1)
+
+returns-4 : tie.Need-returns-4
+returns-4 c = simp (c .enum-told4 .given .1)
+
+pub identity-block-spec : {M : Type 1} → statement M
+identity-block-spec =
+    tie.close
+    (tie.spec (λ c. search needs) (λ c. search needs) (λ c. search needs) (λ c. search needs) returns returns-2 returns-3 returns-4)

@@ -1,0 +1,3 @@
+-- Laws that the proofs of this crate share.
+--     JudgeLaws   a call of four signals, judged with letters behind it
+mod JudgeLaws

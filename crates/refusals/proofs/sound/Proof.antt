@@ -1,0 +1,26 @@
+-- `refusals::sound` meets its contract. Assumes nothing.
+use borrow.Author.Tests.{le-leb, lt-leb}
+use Rattle.mode_a.specs.Step.{sound}
+use borrow.Author.Needs.{needs}
+use Rattle.refusals.proofs.sound.Statement.{statement}
+use Rattle.refusals.proofs.sound.Tie as tie
+use Rattle.refusals.proofs.sound.Reads as reads
+use Rattle.refusals.proofs.sound.Lts as lts
+use Rattle.refusals.proofs.sound_place.Reads as sound-place-reads
+
+sub-if1 : tie.Need-sub-if1
+sub-if1 c = search needs
+
+returns : tie.Need-returns
+unfolding sound
+returns c = rw (lt-leb _ _ (c .if1 .taken))
+
+sound-place-requires : tie.Need-sound-place-requires
+sound-place-requires c κs = search needs
+
+returns-2 : tie.Need-returns-2
+unfolding sound
+returns-2 c = rw (le-leb _ _ (c .before .if1 .left)) (c .sound-place .ensures)
+
+pub sound-spec : {M : Type 1} → statement M
+sound-spec = tie.close (tie.spec sub-if1 returns sound-place-requires returns-2)

@@ -1,3 +1,0 @@
--- What the station's own functions answer, beside the rules of `mode_a`.
---     Parts   the first bad word of an offer, the first bad signal of a call
-pub mod Parts
