@@ -9,11 +9,14 @@ use mathlib.Core.List.{List, [], _∷_, _++_}
 use Rattle.signals.specs.Meaning.{meaningOf, trafficOf, wordNo, figures, beta}
 use Rattle.signals.specs.Numbers.{firstNot}
 use Rattle.mode_a.specs.declared.Identity.{Identity}
+use Rattle.mode_a.specs.declared.Own.{Own}
 use Rattle.mode_a.specs.declared.Offer.{Offer}
 use Rattle.mode_a.specs.declared.Peer.the-variants.{Four}
-use Rattle.mode_a.specs.Calls.{isIdentity, isCallable, nextBlock}
-use Rattle.mode_a.specs.Station.{words, silence, resting, freshAt}
-use Rattle.mode_a.specs.Heard.{firstOf, mayHold, isBlock, isWords, callOf, heardOf}
+use Rattle.identity.specs.Table3.{isIdentity}
+use Rattle.identity.specs.Sums.{isCallable7}
+use Rattle.mode_a.specs.Calls.{isCallable, nextBlock}
+use Rattle.mode_a.specs.Station.{words, silence, resting, noSeven, freshAt}
+use Rattle.mode_a.specs.Heard.{firstOf, mayHold, isBlock, isWords, callOf, call3Of, heardOf}
 use Rattle.mode_a.specs.Over.{query, cross, listened}
 use Rattle.mode_a.specs.Step.{trafficIn, done, sound, stepping}
 use Rattle.runs.specs.Runs.{start}
@@ -31,17 +34,20 @@ vxqz = record { 0 = wordNo 22; 1 = wordNo 24; 2 = wordNo 17; 3 = wordNo 26 }
 abbrev pub pear : Identity
 pear = record { 0 = wordNo 16; 1 = wordNo 5; 2 = wordNo 1; 3 = wordNo 18 }
 
+abbrev named4 : Identity → Own
+named4 i = record { four = i; seven = noSeven }
+
 abbrev pub both-stand-by : Circuit
 both-stand-by =
-    record { hearer = freshAt pear; sender = freshAt vxqz; burst = silence; from-hearer = nothingYet; from-sender = nothingYet }
+    record { hearer = freshAt (named4 pear); sender = freshAt (named4 vxqz); burst = silence; from-hearer = nothingYet; from-sender = nothingYet }
 
 abbrev pub call-placed : Circuit
 call-placed = next both-stand-by (clear (Offer.Call vxqz))
 
 pub is-placed : CallPlaced vxqz call-placed
-unfolding stepping sound done firstNot isIdentity isCallable isBlock mayHold trafficOf meaningOf heardOf callOf firstOf isWords
+unfolding stepping sound done firstNot isIdentity isCallable isBlock mayHold trafficOf meaningOf heardOf callOf call3Of isCallable7 firstOf isWords
 is-placed = record {
-  caller = freshAt pear;
+  caller = freshAt (named4 pear);
   sender-is = refl;
   burst-is = refl;
   hearer-at = refl;
@@ -82,22 +88,22 @@ Completed c =
     CallCompleted c × (c .sender .other ≡ Four vxqz) × (c .hearer .count ≡ 2) × (c .from-sender .taken ≡ signals3 1 2 3 ∷ [])
 
 pub is-completed : Completed (after call-placed (run-of start until-completed))
-unfolding after through stepping sound done firstNot isIdentity isCallable nextBlock isBlock mayHold trafficOf meaningOf heardOf callOf firstOf isWords listened trafficIn
+unfolding after through stepping sound done firstNot isIdentity isCallable nextBlock isBlock mayHold trafficOf meaningOf heardOf callOf call3Of isCallable7 firstOf isWords listened trafficIn
 is-completed =
     subst Completed (sym (computed call-placed start until-completed)) (record { sender-role = refl; sender-count = refl; sender-case = refl; sender-plus = refl; begins = with-block refl refl refl refl; hearer-role = refl; hearer-place = refl; hearer-count = refl; hearer-case = refl; hearer-plus = refl; none-from-hearer = refl }, refl, refl, refl)
 
 pub carries-on : CarriedAll (after call-placed (run-of start to-the-end) .from-hearer) (signals3 1 2 3 ∷ words figures cross query ∷ []) (wordNo 1 ∷ wordNo 2 ∷ wordNo 3 ∷ figures ∷ cross ∷ query ∷ [])
-unfolding after through stepping sound done firstNot isIdentity isCallable nextBlock isBlock mayHold trafficOf meaningOf heardOf callOf firstOf isWords listened trafficIn traffic signalsIn
+unfolding after through stepping sound done firstNot isIdentity isCallable nextBlock isBlock mayHold trafficOf meaningOf heardOf callOf call3Of isCallable7 firstOf isWords listened trafficIn traffic signalsIn
 carries-on =
     subst (λ (c : Circuit). CarriedAll (c .from-hearer) (signals3 1 2 3 ∷ words figures cross query ∷ []) (wordNo 1 ∷ wordNo 2 ∷ wordNo 3 ∷ figures ∷ cross ∷ query ∷ [])) (sym (computed call-placed start to-the-end)) (record { taken = refl; accepted = refl; printed = refl; is-the-traffic = refl; confirmed = refl })
 
 pub and-answers : CarriedAll (after call-placed (run-of start to-the-end) .from-sender) (signals3 4 5 6 ∷ []) (wordNo 4 ∷ wordNo 5 ∷ wordNo 6 ∷ [])
-unfolding after through stepping sound done firstNot isIdentity isCallable nextBlock isBlock mayHold trafficOf meaningOf heardOf callOf firstOf isWords listened trafficIn traffic signalsIn
+unfolding after through stepping sound done firstNot isIdentity isCallable nextBlock isBlock mayHold trafficOf meaningOf heardOf callOf call3Of isCallable7 firstOf isWords listened trafficIn traffic signalsIn
 and-answers =
     subst (λ (c : Circuit). CarriedAll (c .from-sender) (signals3 4 5 6 ∷ []) (wordNo 4 ∷ wordNo 5 ∷ wordNo 6 ∷ [])) (sym (computed call-placed start to-the-end)) (record { taken = refl; accepted = refl; printed = refl; is-the-traffic = refl; confirmed = refl })
 
 pub both-stand-by-again : let c = after call-placed (run-of start to-the-end) in (c .hearer .place ≡ resting 0) × (c .sender .place ≡ resting 0)
-unfolding after through stepping sound done firstNot isIdentity isCallable nextBlock isBlock mayHold trafficOf meaningOf heardOf callOf firstOf isWords listened trafficIn
+unfolding after through stepping sound done firstNot isIdentity isCallable nextBlock isBlock mayHold trafficOf meaningOf heardOf callOf call3Of isCallable7 firstOf isWords listened trafficIn
 both-stand-by-again =
     subst (λ (c : Circuit). (c .hearer .place ≡ resting 0) × (c .sender .place ≡ resting 0)) (sym (computed call-placed start to-the-end)) (refl, refl)
 
@@ -108,6 +114,6 @@ call-offered = calling-on ++ clear (Offer.Call pear) ∷ clear none ∷ []
 
 pub gives-βββ : let c = after call-placed (run-of start call-offered) in
     (c .from-hearer .taken ≡ words beta beta beta ∷ []) × (c .from-hearer .accepted ≡ words beta beta beta ∷ [])
-unfolding after through stepping sound done firstNot isIdentity isCallable nextBlock isBlock mayHold trafficOf meaningOf heardOf callOf firstOf isWords listened trafficIn
+unfolding after through stepping sound done firstNot isIdentity isCallable nextBlock isBlock mayHold trafficOf meaningOf heardOf callOf call3Of isCallable7 firstOf isWords listened trafficIn
 gives-βββ =
     subst (λ (c : Circuit). (c .from-hearer .taken ≡ words beta beta beta ∷ []) × (c .from-hearer .accepted ≡ words beta beta beta ∷ [])) (sym (computed call-placed start call-offered)) (refl, refl)

@@ -1,18 +1,32 @@
 -- What a damaged burst can still be. Two facts carry every case:
 --     whole-block, whole-words   a burst heard as a block, or as ααα, βαβ, RQ RQ RQ, is the burst that was sent
+--     whole-call, whole-call3, whole-told   so is one heard as an own call block, of four signals or of seven, or as an identification block
 --     first-heard                a first word that says something is the first word that was sent
 -- Assumes nothing.
 use mathlib.Core.Path.{_≡_, refl, ap, sym, subst, _∙_}
 use mathlib.Core.Bool.{Bool, true, false, _&&_, _||_, true≢false, and-eq-true-iff}
-use Prim.Native.Nat.{ℕ, suc}
+use mathlib.Core.Logic.{_⊎_, inl, inr}
+use Prim.Native.Nat.{ℕ, suc, _<_}
 use native.Mathlib.Omega.{arith}
 use lib.Dec.{eqb, leb}
 use borrow.Author.Tests.{eqb-true}
-use Rattle.signals.specs.Meaning.{meaningOf, trafficOf, beta, rq, cs1, cs2, cs3}
+use Rattle.laws.specs.Choice.{if_then_else_}
+use Rattle.laws.proofs.Table.{same-table}
+use Rattle.signals.specs.Meaning.{meaningOf, trafficOf, alpha, beta, rq, cs1, cs2, cs3, cs4, cs5}
+use Rattle.identity.specs.declared.Seven.{Seven}
+use Rattle.identity.specs.Table3.{isIdentity, numberOf, signalOf}
+use Rattle.identity.specs.Sums.{isCallable7}
+use Rattle.identity.proofs.TableLaws.{letter-read-back}
+use Rattle.mode_a.specs.declared.Mark.{Mark}
+use Rattle.mode_a.specs.declared.Part.{Part}
 use Rattle.mode_a.specs.declared.Words.{Words}
+use Rattle.mode_a.specs.declared.Identity.{Identity}
+use Rattle.mode_a.specs.Calls.{isCallable, callBlock1, callBlock2, call3Block1, call3Block2, call3Block3}
+use Rattle.mode_a.specs.Identification.{nothing-told, block-1, block-2, block-3, toldIn}
 use Rattle.mode_a.specs.Station.{silence}
-use Rattle.mode_a.specs.Heard.{First, Else, firstOf, mayHold, isBlock, isWords}
-use Rattle.mode_a.proofs.HeardLaws.{first-else}
+use Rattle.mode_a.specs.Heard.{First, Else, Cs4, Cs5, Letter, Other, firstOf, mayHold, isBlock, isWords, callOf, call3Of}
+use Rattle.mode_a.proofs.HeardLaws.{first-else, further-other}
+use Rattle.runs.proofs.LetterLaws.{Letters, letters-of}
 use Rattle.signals.specs.Damage.{Damage, kept, hurt, arrives, NoSignal}
 use Rattle.circuit.specs.Circuit.{Event, heard, Harmless}
 
@@ -119,14 +133,114 @@ no-words w b v m s f = go (isWords b v) refl
     go true e = absurd (true≢false (sym e ∙ ap (λ (x : Words). isWords x v) (whole-words w b v m s e) ∙ f))
     go false e = refl
 
--- the first word, as it was sent or none that says something
+-- a letter of table 3a is one of the 35, and so not heard where it was not sent
+letters-are : (n : ℕ) → n < 20 → eqb (meaningOf (signalOf n)) 0 ≡ false
+unfolding meaningOf signalOf
+letters-are = same-table (λ n. eqb (meaningOf (signalOf n)) 0) (λ n. false) 20 false refl
+
+pub letter-is : (b : ℕ) → isIdentity b ≡ true → meaningOf b ≡ 0 → ⊥
+letter-is b i z =
+    let y = letter-read-back b i in
+    true≢false (ap (λ (n : ℕ). eqb n 0) (sym z ∙ sym (ap meaningOf (y .0))) ∙ letters-are (numberOf b) (y .1))
+
+pub no-letter-heard : (b : ℕ) → meaningOf b ≡ 0 → isIdentity b ≡ false
+no-letter-heard b z = go (isIdentity b) refl
+  where
+    go : (t : Bool) → isIdentity b ≡ t → t ≡ false
+    go true i = absurd (letter-is b i z)
+    go false i = refl
+
+pub four-letters : (i : Identity) → isCallable i ≡ true → (isIdentity (i .0) ≡ true) × (isIdentity (i .1) ≡ true) × (isIdentity (i .2) ≡ true) × (isIdentity (i .3) ≡ true)
+unfolding isCallable
+four-letters i e =
+    let x = and-eq-true-iff (isIdentity (i .0)) _ .0 e in
+    let y = all-three (isIdentity (i .1)) (isIdentity (i .2)) (isIdentity (i .3)) (x .1) in
+    (x .0, y .0, y .1, y .2)
+
+alpha-is : meaningOf alpha ≡ 0 → ⊥
+unfolding meaningOf
+alpha-is e = omega arith
+
+-- the own call blocks are signals
+module _ (i : Identity) (e : isCallable i ≡ true) where
+  block1-signals : Signals (callBlock1 i)
+  block1-signals = let l = four-letters i e in (letter-is (i .0) (l .0), rq-is, letter-is (i .1) (l .1))
+
+  block2-signals : Signals (callBlock2 i)
+  block2-signals = let l = four-letters i e in (letter-is (i .2) (l .2), letter-is (i .3) (l .3), rq-is)
+
+module _ (i : Seven) (e : isCallable7 i ≡ true) where
+  abbrev l : Letters i
+  l = letters-of i e
+
+  block1-signals3 : Signals (call3Block1 i)
+  block1-signals3 = (letter-is (i .0) (l .first), rq-is, letter-is (i .1) (l .second))
+
+  block2-signals3 : Signals (call3Block2 i)
+  block2-signals3 = (rq-is, letter-is (i .2) (l .third), letter-is (i .3) (l .fourth))
+
+  block3-signals3 : Signals (call3Block3 i)
+  block3-signals3 = (letter-is (i .4) (l .fifth), letter-is (i .5) (l .sixth), letter-is (i .6) (l .seventh))
+
+-- so what is heard as an own call block was sent, and whole; and so was what is heard as an identification block, of each of the three
+-- kinds
+module _ (w b : Words) (m : Mangled w b) where
+  pub whole-call : (i : Identity) → (callOf i b ≡ Mark.None) ⊎ (b ≡ w)
+  unfolding callOf
+  whole-call i = go (isCallable i) refl (isWords b (callBlock1 i)) refl (isWords b (callBlock2 i)) refl
+    where
+      go : (t : Bool) → isCallable i ≡ t → (u : Bool) → isWords b (callBlock1 i) ≡ u → (v : Bool) → isWords b (callBlock2 i) ≡ v → ((if t then (if u then Mark.One else if v then Mark.Two else Mark.None) else Mark.None) ≡ Mark.None) ⊎ (b ≡ w)
+      go false p u q v r = inl refl
+      go true p true q v r = inr (whole-words w b (callBlock1 i) m (block1-signals i p) q)
+      go true p false q true r = inr (whole-words w b (callBlock2 i) m (block2-signals i p) r)
+      go true p false q false r = inl refl
+
+  pub whole-call3 : (i : Seven) → (call3Of i b ≡ Part.None) ⊎ (b ≡ w)
+  unfolding call3Of
+  whole-call3 i = go (isCallable7 i) refl (isWords b (call3Block1 i)) refl (isWords b (call3Block2 i)) refl (isWords b (call3Block3 i)) refl
+    where
+      go : (t : Bool) → isCallable7 i ≡ t → (u : Bool) → isWords b (call3Block1 i) ≡ u → (v : Bool) → isWords b (call3Block2 i) ≡ v → (x : Bool) → isWords b (call3Block3 i) ≡ x → ((if t then (if u then Part.One else if v then Part.Two else if x then Part.Three else Part.None) else Part.None) ≡ Part.None) ⊎ (b ≡ w)
+      go false p u q v r x k = inl refl
+      go true p true q v r x k = inr (whole-words w b (call3Block1 i) m (block1-signals3 i p) q)
+      go true p false q true r x k = inr (whole-words w b (call3Block2 i) m (block2-signals3 i p) r)
+      go true p false q false r true k = inr (whole-words w b (call3Block3 i) m (block3-signals3 i p) k)
+      go true p false q false r false k = inl refl
+
+  letter-as-sent : (w b : ℕ) → Word w b → isIdentity b ≡ true → b ≡ w
+  letter-as-sent w b (as-sent e) h = e
+  letter-as-sent w b (no-signal z) h = absurd (letter-is b h z)
+
+  alpha-as-sent : (w b : ℕ) → Word w b → eqb b alpha ≡ true → b ≡ w
+  alpha-as-sent w b n e = signal-as-sent w b alpha n (eqb-true b alpha e) alpha-is
+
+  pub whole-told : (toldIn b ≡ nothing-told) ⊎ (b ≡ w)
+  unfolding toldIn
+  whole-told = go _ refl _ refl _ refl
+    where
+      words-as-sent : b .0 ≡ w .0 → b .1 ≡ w .1 → b .2 ≡ w .2 → b ≡ w
+      words-as-sent x y z = λ i. record { 0 = x i; 1 = y i; 2 = z i }
+
+      go : (t : Bool) → isIdentity (b .0) && (eqb (b .1) alpha && isIdentity (b .2)) ≡ t → (u : Bool) → eqb (b .0) alpha && (isIdentity (b .1) && isIdentity (b .2)) ≡ u → (v : Bool) → isIdentity (b .0) && (isIdentity (b .1) && isIdentity (b .2)) ≡ v → ((if t then block-1 (b .0) (b .2) else if u then block-2 (b .1) (b .2) else if v then block-3 (b .0) (b .1) (b .2) else nothing-told) ≡ nothing-told) ⊎ (b ≡ w)
+      go true p u q v r =
+          let l = all-three (isIdentity (b .0)) (eqb (b .1) alpha) (isIdentity (b .2)) p in
+          inr (words-as-sent (letter-as-sent (w .0) (b .0) (m .word0) (l .0)) (alpha-as-sent (w .1) (b .1) (m .word1) (l .1)) (letter-as-sent (w .2) (b .2) (m .word2) (l .2)))
+      go false p true q v r =
+          let l = all-three (eqb (b .0) alpha) (isIdentity (b .1)) (isIdentity (b .2)) q in
+          inr (words-as-sent (alpha-as-sent (w .0) (b .0) (m .word0) (l .0)) (letter-as-sent (w .1) (b .1) (m .word1) (l .1)) (letter-as-sent (w .2) (b .2) (m .word2) (l .2)))
+      go false p false q true r =
+          let l = all-three (isIdentity (b .0)) (isIdentity (b .1)) (isIdentity (b .2)) r in
+          inr (words-as-sent (letter-as-sent (w .0) (b .0) (m .word0) (l .0)) (letter-as-sent (w .1) (b .1) (m .word1) (l .1)) (letter-as-sent (w .2) (b .2) (m .word2) (l .2)))
+      go false p false q false r = inl refl
+
+-- the first word, as it was sent or none that says something: none of the 35 is CS4, CS5 or a letter of table 3b either
 pub data FirstIs (f : First) : First → Type 0 where
   said : FirstIs f f
-  unsaid : FirstIs f Else
+  unsaid : FirstIs f (Else Other)
 
-says-nothing : (b : ℕ) → meaningOf b ≡ 0 → firstOf b ≡ Else
+says-nothing : (b : ℕ) → meaningOf b ≡ 0 → firstOf b ≡ Else Other
 unfolding meaningOf
-says-nothing b z = first-else b (not 11 cs1 refl) (not 31 cs2 refl) (not 13 cs3 refl) (not 34 rq refl)
+says-nothing b z =
+    first-else b (not 11 cs1 refl) (not 31 cs2 refl) (not 13 cs3 refl) (not 34 rq refl) ∙ ap Else (further-other b (not 6 cs4 refl) (not 7 cs5 refl) (no-letter-heard b z))
   where
     not : (n v : ℕ) → meaningOf v ≡ suc n → b ≡ v → ⊥
     not n v p e = let x : suc n ≡ 0 = sym p ∙ sym (ap meaningOf e) ∙ z in omega arith
@@ -134,3 +248,20 @@ says-nothing b z = first-else b (not 11 cs1 refl) (not 31 cs2 refl) (not 13 cs3 
 pub first-heard : (w b : ℕ) → Word w b → FirstIs (firstOf w) (firstOf b)
 first-heard w b (as-sent e) = subst (λ (x : ℕ). FirstIs (firstOf x) (firstOf b)) e said
 first-heard w b (no-signal z) = subst (λ (f : First). FirstIs (firstOf w) f) (sym (says-nothing b z)) unsaid
+
+-- so a control signal, RQ or a letter that is heard first was sent first
+abbrev pub isOther : First → Bool
+isOther (First.Cs n) = false
+isOther First.Cs3 = false
+isOther First.Rq = false
+isOther (Else Cs4) = false
+isOther (Else Cs5) = false
+isOther (Else (Letter v)) = false
+isOther (Else Other) = true
+
+pub first-as-sent : (w b : ℕ) → Word w b → isOther (firstOf b) ≡ false → firstOf b ≡ firstOf w
+first-as-sent w b m n = go (firstOf b) (first-heard w b m) n
+  where
+    go : (f : First) → FirstIs (firstOf w) f → isOther f ≡ false → f ≡ firstOf w
+    go f said n = refl
+    go f unsaid n = absurd (true≢false n)

@@ -10,10 +10,24 @@
 --     E2      Ending             Stand-by
 --     E3      Receiving          Stand-by
 --     E4      Stand-by           Stand-by
+--
+-- A call, and identification behind a call of three blocks (`Calls`):
 --     C1      Calling            Stand-by
 --     C2      Calling            Receiving k
+--     C3      Calling            Answering, before its fourth stage
+--     I1      Calling 3          Stand-by
+--     I2      Calling 3          Answering
+--     I3      Identifying        Answering
+--     I4      Identifying 4      Receiving 1
+--     I5      Identifying 4      Asking
+--     I6      Identifying        Stand-by
+--     I7      Stand-by           Answering
+--     I8      Stand-by           Asking
+--     I9      Ending             Answering
 --
--- C1 and C2 lead to S1 or E1 where the call is completed, and to E4 and E3 where it fails.
+-- C1 and C2 lead to S1 or E1 where the call is completed, and to E4 and E3 where it fails. C3 is where the station called has heard the
+-- second and the third of its three call blocks, and then takes block 1 of a call of two blocks for the first: it answers CS4, until the
+-- one or the other gives up. I1 to I5 lead to S1, E1 or S3 where identification is completed, and by the others to the ends where it is not.
 -- A station that is Lost is linked by the place where it was, as if it were still there and all its bursts were damaged.
 -- Assumes nothing.
 use mathlib.Core.Path.{_≡_}
@@ -22,21 +36,34 @@ use mathlib.Core.List.{List, [], _∷_, _++_}
 use Prim.Native.Nat.{ℕ}
 use lib.Dec.{eqb}
 use Rattle.signals.specs.Meaning.{rq, cs3}
+use Rattle.identity.specs.declared.Seven.{Seven}
+use Rattle.identity.specs.Table3.{isIdentity}
+use Rattle.identity.specs.Sums.{isCallable7}
 use Rattle.mode_a.specs.declared.Role.{Role}
 use Rattle.mode_a.specs.declared.Number.{Number}
+use Rattle.mode_a.specs.declared.Number.the-variants.{One, Two}
+use Rattle.mode_a.specs.declared.Mark.{Mark}
+use Rattle.mode_a.specs.declared.Succession.{Succession}
+use Rattle.mode_a.specs.declared.Stage.{Stage}
 use Rattle.mode_a.specs.declared.Words.{Words}
 use Rattle.mode_a.specs.declared.Held.{Held}
 use Rattle.mode_a.specs.declared.Ended.{Ended}
 use Rattle.mode_a.specs.declared.Place.{Place}
 use Rattle.mode_a.specs.declared.Waiting.{Waiting}
 use Rattle.mode_a.specs.declared.Called.{Called}
-use Rattle.mode_a.specs.declared.Place.the-variants.{Sending, Turning, Opening, Ending, Receiving, Asking, StandBy, Lost, Calling}
+use Rattle.mode_a.specs.declared.Called3.{Called3}
+use Rattle.mode_a.specs.declared.Identified.{Identified}
+use Rattle.mode_a.specs.declared.Gathered.{Gathered}
+use Rattle.mode_a.specs.declared.Place.the-variants.{Sending, Turning, Opening, Ending, Receiving, Asking, StandBy, Lost, Calling, Calling3, Identifying, Answering}
 use Rattle.mode_a.specs.declared.Offer.{Offer}
 use Rattle.mode_a.specs.declared.Station.{Station}
 use Rattle.mode_a.specs.declared.Reply.{Reply}
-use Rattle.mode_a.specs.Station.{listOf, single, silence, ααα, RQ×3, other, asksFor}
-use Rattle.mode_a.specs.Heard.{isBlock, isWords}
-use Rattle.mode_a.specs.Rows.{requests}
+use Rattle.mode_a.specs.Calls.{nextBlock, nextBlock3}
+use Rattle.mode_a.specs.Identification.{identityBlock}
+use Rattle.mode_a.specs.Station.{listOf, single, silence, ααα, RQ×3, other, asksFor, marks}
+use Rattle.mode_a.specs.Heard.{First, Cs, Cs3, Rq, Else, firstOf, isBlock, isWords}
+use Rattle.mode_a.specs.Rows.{requests, isLast}
+use Rattle.runs.proofs.LetterLaws.{Lettered}
 use Rattle.circuit.specs.Circuit.{traffic, signalsIn, Direction, Circuit, takenIf, printedBy}
 
 -- what is owed in a direction: nothing, or the confirmation of a block that the other has not accepted, or has
@@ -48,9 +75,52 @@ pub data Owed : Type 0 where
 abbrev pub held : Number → Words → Held
 held n b = record { number = n; block = b }
 
--- a burst without the RQ that a call block has behind its first word: no station at Stand-by hears a call in it
-abbrev pub noRq : Words → Bool
-noRq w = not (eqb (w .1) rq || eqb (w .2) rq)
+-- a burst without a letter of table 3a or RQ at its end, one of which every call block has there: no station at Stand-by hears a call in it
+abbrev pub noCall : Words → Bool
+noCall w = not (isIdentity (w .2) || eqb (w .2) rq)
+
+-- what Answering says first, CS4, RQ or a check-sum: neither CS1, CS2 nor CS3
+abbrev pub saysOn : First → Bool
+saysOn (Cs n) = false
+saysOn Cs3 = false
+saysOn Rq = true
+saysOn (Else x) = true
+
+-- The phases of a call and of identification: the station that hears, the station that has sent, and what it sent. In I1 the station at
+-- Stand-by has not just heard block 2 of its own four signals, and no block of a call of seven is one: it hears no call of two blocks. In
+-- I6 it has heard no call block: three letters begin none.
+pub data Calls : Place → Place → Words → Type 0 where
+  c1-any : {x : Waiting} {c : Called} {w : Words} → Calls (StandBy x) (Calling c) w
+  c1-silence : {x : Waiting} {c : Called} → Calls (Calling c) (StandBy x) silence
+  c2-call : {k : Number} {c : Called} {w : Words} → isBlock w ≡ false → isWords w ααα ≡ false → Calls (Receiving k) (Calling c) w
+  c2-asks : {k : Number} {c : Called} → Calls (Calling c) (Receiving k) (asksFor k)
+  c3-call : {g : Gathered} {c : Called} (n : ℕ) → isLast (g .stage) ≡ false → Calls (Answering g) (Calling c) (nextBlock (c .to) n)
+  c3-answer : {g : Gathered} {c : Called} {v : ℕ} → isLast (g .stage) ≡ false → saysOn (firstOf v) ≡ true →
+      Calls (Calling c) (Answering g) (single v)
+  i1-call : {x : Waiting} {c : Called3} (n : ℕ) → isCallable7 (c .to) ≡ true → marks (x .heard) Two ≡ false →
+      Calls (StandBy x) (Calling3 c) (nextBlock3 (c .to) n)
+  i1-silence : {x : Waiting} {c : Called3} → isCallable7 (c .to) ≡ true → marks (x .heard) Two ≡ false →
+      Calls (Calling3 c) (StandBy x) silence
+  i2-call : {g : Gathered} {c : Called3} (n : ℕ) → isCallable7 (c .to) ≡ true →
+      Calls (Answering g) (Calling3 c) (nextBlock3 (c .to) n)
+  i2-any : {g : Gathered} {c : Called3} {w : Words} → isCallable7 (c .to) ≡ true → Calls (Calling3 c) (Answering g) w
+  i3-block : {g : Gathered} {i : Identified} (y : Seven) → isCallable7 y ≡ true →
+      Calls (Answering g) (Identifying i) (identityBlock y (i .stage))
+  i3-answer : {g : Gathered} {i : Identified} {v : ℕ} → saysOn (firstOf v) ≡ true → Calls (Identifying i) (Answering g) (single v)
+  i4-rqs : {i : Identified} → i .stage ≡ Stage.Four → Calls (Receiving One) (Identifying i) RQ×3
+  i4-asks : {i : Identified} → i .stage ≡ Stage.Four → Calls (Identifying i) (Receiving One) (asksFor One)
+  i5-rqs : {i : Identified} → i .stage ≡ Stage.Four → Calls Asking (Identifying i) RQ×3
+  i5-cs3 : {i : Identified} → i .stage ≡ Stage.Four → Calls (Identifying i) Asking (single cs3)
+  i6-block : {x : Waiting} {i : Identified} (y : Seven) → isCallable7 y ≡ true → x .heard ≡ Mark.None → x .heard3 ≡ Succession.None →
+      Calls (StandBy x) (Identifying i) (identityBlock y (i .stage))
+  i6-silence : {x : Waiting} {i : Identified} → x .heard ≡ Mark.None → x .heard3 ≡ Succession.None →
+      Calls (Identifying i) (StandBy x) silence
+  i7-any : {x : Waiting} {g : Gathered} {w : Words} → noCall w ≡ true → Calls (StandBy x) (Answering g) w
+  i7-silence : {x : Waiting} {g : Gathered} → Calls (Answering g) (StandBy x) silence
+  i8-any : {x : Waiting} {w : Words} → noCall w ≡ true → Calls (StandBy x) Asking w
+  i8-silence : {x : Waiting} → Calls Asking (StandBy x) silence
+  i9-alphas : {g : Gathered} {e : Ended} → Calls (Answering g) (Ending e) ααα
+  i9-any : {g : Gathered} {e : Ended} {w : Words} → Calls (Ending e) (Answering g) w
 
 -- The station that hears, the station that has sent, what it sent, and what is owed to the one and to the other. In S1 with the block
 -- accepted, the sender has RQ RQ RQ on the way and not the block: else it would be accepted twice.
@@ -71,14 +141,11 @@ pub data Link : Place → Place → Words → Owed → Owed → Type 0 where
   e1-alphas : {k : Number} {e : Ended} → Link (Receiving k) (Ending e) ααα none none
   e1-any : {k : Number} {e : Ended} {w : Words} → Link (Ending e) (Receiving k) w none none
   e2-any : {e : Ended} {x : Waiting} {w : Words} → Link (Ending e) (StandBy x) w none none
-  e2-any′ : {e : Ended} {x : Waiting} {w : Words} → noRq w ≡ true → Link (StandBy x) (Ending e) w none none
+  e2-any′ : {e : Ended} {x : Waiting} {w : Words} → noCall w ≡ true → Link (StandBy x) (Ending e) w none none
   e3-silence : {k : Number} {x : Waiting} → Link (Receiving k) (StandBy x) silence none none
-  e3-any : {k : Number} {x : Waiting} {w : Words} → noRq w ≡ true → Link (StandBy x) (Receiving k) w none none
-  e4-any : {x y : Waiting} {w : Words} → noRq w ≡ true → Link (StandBy x) (StandBy y) w none none
-  c1-any : {x : Waiting} {c : Called} {w : Words} → Link (StandBy x) (Calling c) w none none
-  c1-silence : {x : Waiting} {c : Called} → Link (Calling c) (StandBy x) silence none none
-  c2-call : {k : Number} {c : Called} {w : Words} → isBlock w ≡ false → isWords w ααα ≡ false → Link (Receiving k) (Calling c) w none none
-  c2-asks : {k : Number} {c : Called} → Link (Calling c) (Receiving k) (asksFor k) none none
+  e3-any : {k : Number} {x : Waiting} {w : Words} → noCall w ≡ true → Link (StandBy x) (Receiving k) w none none
+  e4-any : {x y : Waiting} {w : Words} → noCall w ≡ true → Link (StandBy x) (StandBy y) w none none
+  calls : {x p : Place} {w : Words} → Calls x p w → Link x p w none none
 
 -- what is owed, in the lists of the direction
 abbrev pub waiting : Owed → List Words
@@ -114,6 +181,8 @@ pub record Linked (c : Circuit) : Type 0 where
   pub link : Link hearer-at sender-at would-say owed-hearer owed-sender
   pub hears : At (c .hearer) hearer-at
   pub says : Says (c .sender) sender-at (c .burst) would-say
+  pub hearer-lettered : Lettered (c .hearer)
+  pub sender-lettered : Lettered (c .sender)
   pub told-hearer : Told owed-hearer (c .from-hearer)
   pub told-sender : Told owed-sender (c .from-sender)
 

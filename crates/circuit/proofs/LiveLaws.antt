@@ -23,19 +23,21 @@ use Rattle.mode_a.specs.declared.Offer.{Offer}
 use Rattle.mode_a.specs.declared.Station.{Station}
 use Rattle.mode_a.specs.declared.Reply.{Reply}
 use Rattle.mode_a.specs.Station.{silence, RQ×3, other}
-use Rattle.mode_a.specs.Heard.{First, Cs, Cs3, Else, firstOf, mayHold, isBlock, heardOf}
+use Rattle.mode_a.specs.Heard.{First, Cs, Cs3, Else, Other, firstOf, mayHold, isBlock, heardOf}
 use Rattle.mode_a.specs.Step.{repeats, done}
 use Rattle.signals.specs.Damage.{arrives}
-use Rattle.runs.specs.Places.{Inner, with-block, with-total, neither, innerOf, ofHeld, atSending}
+use Rattle.runs.specs.Places.{Inner, with-block, with-total, with-waiting, with-called, with-called3, neither, innerOf, ofHeld, atSending}
 use Rattle.runs.specs.Runs.{isAnswered}
 use Rattle.runs.proofs.PlaceLaws.{places-apart}
 use Rattle.runs.proofs.StepLaws.{Answers, answers, by-repeat, lost-stays}
 use Rattle.circuit.specs.Circuit.{Event, heard, Harmless, Whole, Circuit, said, confirmedAt, confirmedOf, confirmedBy, acceptedBy, answeredBy, goesOn, next, placesCall}
 use Rattle.circuit.specs.Demand.{Beginning, Exchanged, Confirms, TimedOutFirst, InTime, AwaitsAtRq}
-use Rattle.circuit.proofs.Link.{Owed, unheard, heard as accepted, held, Link, s1-block, s1-rqs, s1-own, s1-rqs′, s1-other, s2-rqs, s2-cs3, s3-any, s3-cs3, s4-rq, s4-rqs, s5-asks, s5-rq, e1-alphas, e1-any, e2-any, e2-any′, e3-silence, e3-any, e4-any, c1-any, c1-silence, c2-call, c2-asks, Told, At, here, gone, Says, aloud, no-more, Linked}
-use Rattle.circuit.proofs.StepLaws.{asks-first, same-self, same-other}
+use Rattle.circuit.proofs.Link.{Owed, unheard, heard as accepted, held, Link, s1-block, s1-rqs, s1-own, s1-rqs′, s1-other, s2-rqs, s2-cs3, s3-any, s3-cs3, s4-rq, s4-rqs, s5-asks, s5-rq, e1-alphas, e1-any, e2-any, e2-any′, e3-silence, e3-any, e4-any, calls, Told, At, here, gone, Says, aloud, no-more, Linked}
+use Rattle.circuit.proofs.ReplyLaws.{asks-first, silence-first}
+use Rattle.circuit.proofs.CallStepLaws.{call-places}
+use Rattle.circuit.proofs.StepLaws.{same-self, same-other}
 use Rattle.circuit.proofs.TimeLaws.{in-time, Follows, took, turns, follows-in-time, goes-on}
-use Rattle.circuit.proofs.RunLaws.{still-at, place-here, linked-next, sender-sends}
+use Rattle.circuit.proofs.RunLaws.{still-at, place-here, not-at-sending, linked-next, sender-sends}
 
 -- undamaged, it is heard as it was sent; and that is harmless
 heard-whole : (e : Event) (w : Words) → Whole e → heard e w ≡ w
@@ -54,17 +56,20 @@ lost-silent : (s : Station) (b : Words) (o : Offer) (r : Reply) → Answers s b 
     (r .station .place ≡ Lost) × (r .sent ≡ silence)
 lost-silent s b o r a e = rw (lost-stays s b o r a e) (refl, refl)
 
-by-nothing : (p : Place) → confirmedOf p Else ≡ []
+by-nothing : (p : Place) → confirmedOf p (Else Other) ≡ []
 by-nothing p = go (innerOf p)
   where
-    go : (x : Inner) → ofHeld (λ h. confirmedAt h Else) [] x ≡ []
+    go : (x : Inner) → ofHeld (λ h. confirmedAt h (Else Other)) [] x ≡ []
     go (with-block h) = refl
     go (with-total e) = refl
+    go (with-waiting w) = refl
+    go (with-called c) = refl
+    go (with-called3 c) = refl
     go neither = refl
 
 by-silence : (s : Station) (e : Event) (w : Words) → Whole e → w ≡ silence → confirmedBy s (heard e w) ≡ []
-unfolding firstOf
-by-silence s e w v i = ap (confirmedBy s) (heard-whole e w v ∙ i) ∙ by-nothing (s .place)
+by-silence s e w v i =
+    ap (confirmedBy s) (heard-whole e w v ∙ i) ∙ ap (confirmedOf (s .place)) silence-first ∙ by-nothing (s .place)
 
 -- to repeat is to be Lost, or to stay and to say it
 repeated : (s : Station) (v : Words) (r : Reply) → r ≡ repeats s v →
@@ -103,10 +108,7 @@ hears-at (e2-any′ q) = tt
 hears-at e3-silence = tt
 hears-at (e3-any q) = tt
 hears-at (e4-any q) = tt
-hears-at c1-any = tt
-hears-at c1-silence = tt
-hears-at (c2-call i j) = tt
-hears-at c2-asks = tt
+hears-at (calls {x = x} k) = subst (λ (A : Type 0). A) (sym (not-at-sending _ (Unit {0}) x (call-places k .0))) tt
 
 -- what a station at Sending has sent, and to whom
 data Sent (h : Held) : Place → Words → Owed → Type 0 where
@@ -142,10 +144,7 @@ sent-at (e2-any′ q) = tt
 sent-at e3-silence = tt
 sent-at (e3-any q) = tt
 sent-at (e4-any q) = tt
-sent-at c1-any = tt
-sent-at c1-silence = tt
-sent-at (c2-call i j) = tt
-sent-at c2-asks = tt
+sent-at (calls {p = p} k) = subst (λ (A : Type 0). A) (sym (not-at-sending _ (Unit {0}) p (call-places k .1))) tt
 
 -- the burst of a station that is not Lost
 burst-is : {p : Place} {w : Words} (c : Circuit) → Says (c .sender) p (c .burst) w → (c .sender .place ≡ Lost → ⊥) → c .burst ≡ w

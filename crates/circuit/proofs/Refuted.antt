@@ -5,43 +5,54 @@
 --                      (right-carries, right-keeps, right-exchanges)
 -- Assumes nothing.
 use mathlib.Core.Path.{_≡_, refl, ap, subst, sym, _∙_}
-use mathlib.Core.Bool.{true}
+use mathlib.Core.Bool.{true, false}
 use mathlib.Core.Logic.{_⊎_, inl, inr}
 use mathlib.Core.List.{List, [], _∷_, _++_}
 use Prim.Native.Nat.{ℕ, zero, suc, _≤_}
 use native.Mathlib.Omega.{arith}
 use lib.ListN.{length, getD}
 use Rattle.laws.specs.Choice.{if_then_else_}
+use Rattle.signals.specs.declared.Case.the-variants.{Letters}
 use Rattle.signals.specs.Meaning.{meaningOf, trafficOf, wordNo, figures, cs2, cs3}
 use Rattle.signals.specs.Numbers.{Answer, answered, refused, firstNot}
 use Rattle.mode_a.specs.declared.Role.{Role}
+use Rattle.mode_a.specs.declared.Role.the-variants.{Slave}
+use Rattle.mode_a.specs.declared.Mark.{Mark}
+use Rattle.mode_a.specs.declared.Succession.{Succession}
+use Rattle.mode_a.specs.declared.Peer.the-variants.{Nobody}
 use Rattle.mode_a.specs.declared.Number.{Number}
+use Rattle.mode_a.specs.declared.Own.{Own}
 use Rattle.mode_a.specs.declared.Number.the-variants.{One, Two}
 use Rattle.mode_a.specs.declared.Words.{Words}
 use Rattle.mode_a.specs.declared.Held.{Held}
 use Rattle.mode_a.specs.declared.Ended.{Ended}
 use Rattle.mode_a.specs.declared.Place.{Place}
-use Rattle.mode_a.specs.declared.Place.the-variants.{Sending, Turning, Opening, Ending, Receiving, Asking, StandBy, Lost, Calling}
+use Rattle.mode_a.specs.declared.Place.the-variants.{Sending, Turning, Opening, Ending, Receiving, Asking, StandBy, Lost, Calling, Calling3, Identifying, Answering}
 use Rattle.mode_a.specs.declared.Offer.{Offer}
 use Rattle.mode_a.specs.declared.Doing.{Doing}
 use Rattle.mode_a.specs.declared.Doing.the-variants.{Repeats, Goes, Takes, Opens, Rests}
 use Rattle.mode_a.specs.declared.Reply.{Reply}
-use Rattle.mode_a.specs.Station.{words, single, silence, RQ×3, other, resting}
-use Rattle.mode_a.specs.Heard.{First, Cs, Cs3, Rq, Else, Heard, firstOf, mayHold, isBlock, isWords, callOf, heardOf}
-use Rattle.mode_a.specs.Calls.{isCallable, isIdentity}
+use Rattle.mode_a.specs.Station.{words, single, silence, RQ×3, other, resting, freshAt}
+use Rattle.mode_a.specs.Heard.{First, Cs, Cs3, Rq, Else, Further, Heard, furtherOf, firstOf, mayHold, isBlock, isWords, callOf, call3Of, heardOf}
+use Rattle.identity.specs.Table3.{isIdentity}
+use Rattle.identity.specs.Sums.{isCallable7}
+use Rattle.identity.proofs.Examples.{PEARDBY}
+use Rattle.mode_a.specs.Calls.{isCallable, nextBlock3}
+use Rattle.mode_a.specs.Identification.{toldIn}
 use Rattle.mode_a.specs.Over.{query, cross, listened}
 use Rattle.mode_a.specs.Rows.{rowOf, sending, opening, asking, receiving}
-use Rattle.mode_a.specs.Step.{isOver, trafficIn, done, sound, stepping}
+use Rattle.mode_a.specs.Step.{called3, isOver, trafficIn, done, sound, stepping}
 use Rattle.signals.specs.Damage.{kept, hurt}
 use Rattle.runs.specs.Places.{isOpening, isAsking}
 use Rattle.runs.specs.Runs.{start, _▷_, isAnswered}
 use Rattle.runs.proofs.StepLaws.{answers}
-use Rattle.circuit.specs.Circuit.{Event, heard, Whole, Run, Direction, Circuit, fresh, said, confirmedBy, answeredBy, goesOn, next, after, AllHarmless, NoCallPlaced}
-use Rattle.circuit.specs.Starts.{both-fresh}
+use Rattle.circuit.specs.Circuit.{Event, heard, Whole, Run, Direction, nothingYet, Circuit, fresh, said, confirmedBy, answeredBy, goesOn, next, after, AllHarmless, NoCallPlaced}
+use Rattle.circuit.specs.Starts.{both-fresh, Call3Placed}
 use Rattle.circuit.specs.Demand.{Carried, Kept, Exchanged, Confirms, TimedOutFirst, InTime, Demand3}
 use Rattle.circuit.proofs.TimeLaws.{in-time}
 use Rattle.circuit.proofs.Theorem.{demand3}
 use Rattle.circuit.proofs.Computed.{run-of, through, computed}
+use Rattle.circuit.proofs.Call3Runs.{calling}
 use Rattle.circuit.proofs.Runs.{clear, faded, struck, signals3, text, none, isOrdinary, ordinary}
 
 -- no block where there is one, one where there are two
@@ -124,6 +135,54 @@ no-disguised-text claim =
     let n : wordNo 1 ≡ wordNo 4 = ap (λ (l : List Words). getD l 0 silence .0) (b .splits) in
     omega arith
 
+-- a call of three blocks to a station that has just heard block 2 of its own four signals, V X RQ: the first block, P RQ E, completes that
+-- call, so that the third, D B Y, is printed, which nobody took from an offer
+abbrev calledAt : Mark → Succession → Circuit
+calledAt m h =
+    record {
+      hearer = record {
+        role = Slave;
+        place = StandBy (record { wait = 0; heard = m; heard3 = h });
+        count = 0;
+        case = Letters;
+        plus = false;
+        own = record { four = record { 0 = wordNo 16; 1 = wordNo 05; 2 = wordNo 22; 3 = wordNo 24 }; seven = PEARDBY };
+        other = Nobody;
+      };
+      sender = called3 (freshAt calling) PEARDBY .station;
+      burst = called3 (freshAt calling) PEARDBY .sent;
+      from-hearer = nothingYet;
+      from-sender = nothingYet;
+    }
+
+placed-where-none : Call3Placed PEARDBY (calledAt Mark.None Succession.None)
+unfolding sound isCallable7 isIdentity
+placed-where-none = record {
+  caller = freshAt calling;
+  sender-is = refl;
+  burst-is = refl;
+  called-letters = refl;
+  caller-letters = refl;
+  waits = _;
+  hearer-at = refl;
+  none-heard = refl;
+  none-heard3 = refl;
+  hearer-sound = refl;
+  none-from-hearer = refl;
+  none-from-sender = refl;
+}
+
+abbrev three-blocks : List Event
+three-blocks = clear none ∷ clear none ∷ clear none ∷ clear none ∷ clear none ∷ []
+
+no-two-block-first : ((m : Mark) (run : Run) → AllHarmless run → NoCallPlaced (calledAt m Succession.None) run → Demand3 (after (calledAt m Succession.None) run)) →
+    ⊥
+unfolding AllHarmless NoCallPlaced after through stepping sound done firstNot isIdentity isCallable isCallable7 nextBlock3 isBlock mayHold trafficOf meaningOf heardOf callOf call3Of toldIn furtherOf firstOf isWords listened trafficIn
+no-two-block-first claim =
+    let q = ordinary (calledAt Mark.Two Succession.None) three-blocks refl in
+    let b = subst Demand3 (computed (calledAt Mark.Two Succession.None) start three-blocks) (claim Mark.Two (run-of start three-blocks) (q .harmless) (q .no-call)) .from-hearer .accepts-a-beginning in
+    not-none (length (b .rest)) (ap length (b .splits))
+
 -- an over taken at Receiving counted as a block
 abbrev overAsBlock : Place → List Words
 overAsBlock p = if isAsking p then words figures cross query ∷ [] else []
@@ -164,47 +223,53 @@ end-answer-lost = start ▷ clear Offer.End ▷ clear none ▷ faded none
 
 no-end-block : ((run : Run) → AllHarmless run → NoCallPlaced fresh run → (x : Ended) (d g : Circuit) → after fresh run .sender .place ≡ Ending x → (u : Exchanged (after fresh run) d) (v : Exchanged d g) → InTime g → HearsOther x (after fresh run) (u .out) ⊎ HearsOther x d (v .out)) →
     ⊥
-unfolding AllHarmless NoCallPlaced after stepping sound done firstNot isBlock mayHold trafficOf meaningOf heardOf firstOf isWords callOf isCallable isIdentity listened trafficIn exchanged
+unfolding AllHarmless NoCallPlaced after stepping sound done firstNot isBlock mayHold trafficOf meaningOf heardOf firstOf isWords callOf isCallable call3Of isCallable7 isIdentity listened trafficIn exchanged
 no-end-block claim =
     go (claim end-answer-lost (((tt, (tt, tt, tt)), (tt, tt, tt)), (refl, tt, tt)) (((tt, refl), refl), refl) (record { number = One; total = 2 }) _ _ refl (exchanged (after fresh end-answer-lost) refl refl) (exchanged (exchange (after fresh end-answer-lost)) refl refl) (in-time _ refl, in-time _ refl))
   where
-    go : (Else ≡ Cs Two) ⊎ (Else ≡ Cs Two) → ⊥
+    go : {x y : Further} → (Else x ≡ Cs Two) ⊎ (Else y ≡ Cs Two) → ⊥
     go (inl e) = let y : _≡_ {A = ℕ} 0 1 = cc in omega arith
     go (inr e) = let y : _≡_ {A = ℕ} 0 1 = cc in omega arith
 
 -- Wrong readings. The rows with those of Sending, Opening, Receiving and Asking read otherwise; 01's where they are not.
-abbrev rowsWith : (Held → First → Doing) → (Role → First → Doing) → (Number → Heard → Offer → Doing) → (Heard → Doing) → Role →
-    Place → Heard → Offer → Doing
-rowsWith s p v a r (Sending x) h o = s x (h .first)
-rowsWith s p v a r (Turning n) h o = rowOf r (Turning n) h
-rowsWith s p v a r Opening h o = p r (h .first)
-rowsWith s p v a r (Ending e) h o = rowOf r (Ending e) h
-rowsWith s p v a r (Receiving n) h o = v n h o
-rowsWith s p v a r Asking h o = a h
-rowsWith s p v a r (StandBy w) h o = rowOf r (StandBy w) h
-rowsWith s p v a r Lost h o = rowOf r Lost h
-rowsWith s p v a r (Calling c) h o = rowOf r (Calling c) h
+abbrev rowsWith : (Held → First → Doing) → (Role → First → Doing) → (Number → Heard → Offer → Doing) → (Heard → Doing) → Own →
+    Role → Place → Heard → Offer → Doing
+rowsWith s p v a own r (Sending x) h o = s x (h .first)
+rowsWith s p v a own r (Turning n) h o = rowOf own r (Turning n) h
+rowsWith s p v a own r Opening h o = p r (h .first)
+rowsWith s p v a own r (Ending e) h o = rowOf own r (Ending e) h
+rowsWith s p v a own r (Receiving n) h o = v n h o
+rowsWith s p v a own r Asking h o = a h
+rowsWith s p v a own r (StandBy w) h o = rowOf own r (StandBy w) h
+rowsWith s p v a own r Lost h o = rowOf own r Lost h
+rowsWith s p v a own r (Calling c) h o = rowOf own r (Calling c) h
+rowsWith s p v a own r (Calling3 c) h o = rowOf own r (Calling3 c) h
+rowsWith s p v a own r (Identifying i) h o = rowOf own r (Identifying i) h
+rowsWith s p v a own r (Answering g) h o = rowOf own r (Answering g) h
 
 abbrev receives : Number → Heard → Offer → Doing
 receives n h o = receiving n h
 
-right-rows : (r : Role) (x : Place) (h : Heard) (o : Offer) → rowsWith sending opening receives asking r x h o ≡ rowOf r x h
-right-rows r (Sending x) h o = refl
-right-rows r (Turning n) h o = refl
-right-rows r Opening h o = refl
-right-rows r (Ending e) h o = refl
-right-rows r (Receiving n) h o = refl
-right-rows r Asking h o = refl
-right-rows r (StandBy w) h o = refl
-right-rows r Lost h o = refl
-right-rows r (Calling c) h o = refl
+right-rows : (own : Own) (r : Role) (x : Place) (h : Heard) (o : Offer) → rowsWith sending opening receives asking own r x h o ≡ rowOf own r x h
+right-rows own r (Sending x) h o = refl
+right-rows own r (Turning n) h o = refl
+right-rows own r Opening h o = refl
+right-rows own r (Ending e) h o = refl
+right-rows own r (Receiving n) h o = refl
+right-rows own r Asking h o = refl
+right-rows own r (StandBy w) h o = refl
+right-rows own r Lost h o = refl
+right-rows own r (Calling c) h o = refl
+right-rows own r (Calling3 c) h o = refl
+right-rows own r (Identifying i) h o = refl
+right-rows own r (Answering g) h o = refl
 
 -- the step of a circuit whose stations follow some rows, and refuse what 01's stations refuse
-abbrev stepBy : (Role → Place → Heard → Offer → Doing) → Circuit → Event → Circuit
+abbrev stepBy : (Own → Role → Place → Heard → Offer → Doing) → Circuit → Event → Circuit
 stepBy rows c e =
     let b = heard e (c .burst) in
     if isAnswered (said c e) then
-    answeredBy c (e .offer) b (done (c .hearer) b (e .offer) (rows (c .hearer .role) (c .hearer .place) (heardOf (c .hearer .own) b) (e .offer)))
+    answeredBy c (e .offer) b (done (c .hearer) b (e .offer) (rows (c .hearer .own) (c .hearer .role) (c .hearer .place) (heardOf (c .hearer .own) b) (e .offer)))
     else c
 
 -- the sentences, over any step
@@ -232,10 +297,10 @@ rightStep = stepBy (rowsWith sending opening receives asking)
 right-step : (c : Circuit) (e : Event) → rightStep c e ≡ next c e
 right-step c e = go (said c e) refl
   where
-    go : (a : Answer Reply) → said c e ≡ a → (if isAnswered a then answeredBy c (e .offer) (heard e (c .burst)) (done (c .hearer) (heard e (c .burst)) (e .offer) (rowsWith sending opening receives asking (c .hearer .role) (c .hearer .place) (heardOf (c .hearer .own) (heard e (c .burst))) (e .offer))) else c) ≡ goesOn c e a
+    go : (a : Answer Reply) → said c e ≡ a → (if isAnswered a then answeredBy c (e .offer) (heard e (c .burst)) (done (c .hearer) (heard e (c .burst)) (e .offer) (rowsWith sending opening receives asking (c .hearer .own) (c .hearer .role) (c .hearer .place) (heardOf (c .hearer .own) (heard e (c .burst))) (e .offer))) else c) ≡ goesOn c e a
     go (answered r) i =
         let y = answers (c .hearer) (heard e (c .burst)) (e .offer) r i in
-        ap (answeredBy c (e .offer) (heard e (c .burst))) (ap (done (c .hearer) (heard e (c .burst)) (e .offer)) (right-rows (c .hearer .role) (c .hearer .place) (heardOf (c .hearer .own) (heard e (c .burst))) (e .offer)) ∙ sym (y .is-done))
+        ap (answeredBy c (e .offer) (heard e (c .burst))) (ap (done (c .hearer) (heard e (c .burst)) (e .offer)) (right-rows (c .hearer .own) (c .hearer .role) (c .hearer .place) (heardOf (c .hearer .own) (heard e (c .burst))) (e .offer)) ∙ sym (y .is-done))
     go (refused n v) i = refl
 
 right-steps : rightStep ≡ next
@@ -264,13 +329,13 @@ abbrev ignoresCs3 : Held → First → Doing
 ignoresCs3 h (Cs n) = sending h (Cs n)
 ignoresCs3 h Cs3 = Repeats RQ×3
 ignoresCs3 h Rq = sending h Rq
-ignoresCs3 h Else = sending h Else
+ignoresCs3 h (Else x) = sending h (Else x)
 
 abbrev notAtCs3 : First → List Words → List Words
 notAtCs3 (Cs n) l = l
 notAtCs3 Cs3 l = []
 notAtCs3 Rq l = l
-notAtCs3 Else l = l
+notAtCs3 (Else x) l = l
 
 abbrev countsAsConfirmed : Direction → Direction → List Words → Direction
 countsAsConfirmed before now l =
@@ -351,7 +416,7 @@ abbrev givesUp : Held → First → Doing
 givesUp h (Cs n) = sending h (Cs n)
 givesUp h Cs3 = sending h Cs3
 givesUp h Rq = Rests 0 silence
-givesUp h Else = Rests 0 silence
+givesUp h (Else x) = Rests 0 silence
 
 dropped-block-is-caught : KeepsBy (stepBy (rowsWith givesUp opening receives asking)) → ⊥
 unfolding through stepping sound done firstNot isBlock mayHold trafficOf meaningOf heardOf firstOf isWords listened trafficIn
@@ -364,7 +429,7 @@ abbrev sendsBlock : Held → First → Doing
 sendsBlock h (Cs n) = sending h (Cs n)
 sendsBlock h Cs3 = sending h Cs3
 sendsBlock h Rq = Repeats (h .block)
-sendsBlock h Else = Repeats (h .block)
+sendsBlock h (Else x) = Repeats (h .block)
 
 block-for-rq-is-caught : CarriesBy (stepBy (rowsWith sendsBlock opening receives asking)) → ⊥
 unfolding through stepping sound done firstNot isBlock mayHold trafficOf meaningOf heardOf firstOf isWords listened trafficIn
@@ -398,7 +463,7 @@ abbrev takesOne : Role → First → Doing
 takesOne r (Cs n) = Takes One
 takesOne r Cs3 = opening r Cs3
 takesOne r Rq = opening r Rq
-takesOne r Else = opening r Else
+takesOne r (Else x) = opening r (Else x)
 
 always-one-is-caught : CarriesBy (stepBy (rowsWith sending takesOne receives asking)) → ⊥
 unfolding through stepping sound done firstNot isBlock mayHold trafficOf meaningOf heardOf firstOf isWords listened trafficIn

@@ -14,28 +14,35 @@ use Prim.Native.Nat.{ℕ, _≤_}
 use native.Mathlib.Omega.{arith}
 use lib.ListN.{length, length-append}
 use Rattle.signals.specs.Numbers.{Answer, answered, refused}
+use Rattle.identity.specs.declared.Seven.{Seven}
 use Rattle.mode_a.specs.declared.Words.{Words}
 use Rattle.mode_a.specs.declared.Held.{Held}
 use Rattle.mode_a.specs.declared.Place.{Place}
 use Rattle.mode_a.specs.declared.Identity.{Identity}
-use Rattle.mode_a.specs.declared.Place.the-variants.{Sending, Turning, Opening, Ending, Receiving, Asking, StandBy, Lost, Calling}
+use Rattle.mode_a.specs.declared.Number.the-variants.{Two}
+use Rattle.mode_a.specs.declared.Mark.{Mark}
+use Rattle.mode_a.specs.declared.Place.the-variants.{Sending, Turning, Opening, Ending, Receiving, Asking, StandBy, Lost, Calling, Calling3, Identifying, Answering}
 use Rattle.mode_a.specs.declared.Offer.{Offer}
 use Rattle.mode_a.specs.declared.Station.{Station}
 use Rattle.mode_a.specs.declared.Reply.{Reply}
-use Rattle.mode_a.specs.Station.{listOf}
+use Rattle.mode_a.specs.Station.{listOf, marks}
 use Rattle.mode_a.specs.declared.Waiting.{Waiting}
-use Rattle.mode_a.specs.Heard.{First, Cs, Cs3, Rq, Else, firstOf, callOf}
-use Rattle.mode_a.specs.Rows.{bothHeard}
-use Rattle.runs.specs.Places.{isSending, isOpening, isStandBy}
+use Rattle.mode_a.specs.Calls.{nextBlock3}
+use Rattle.mode_a.specs.Heard.{First, Cs, Cs3, Rq, Else, firstOf, callOf, call3Of}
+use Rattle.mode_a.specs.Rows.{bothHeard, allHeard}
+use Rattle.runs.specs.Places.{isSending, isOpening, isStandBy, atSending}
 use Rattle.runs.specs.Runs.{start, _▷_, isCall, taking, isTaken}
 use Rattle.runs.proofs.PlaceLaws.{places-apart, is-standby}
-use Rattle.runs.proofs.StepLaws.{Answers, answers, by-listen, standby-answers, standby-listens}
+use Rattle.runs.proofs.LetterLaws.{letteredAt, Lettered, lettered-step}
+use Rattle.runs.proofs.StepLaws.{Answers, answers, by-listen, standby-answers, standby-answers3, standby-listens}
 use Rattle.circuit.specs.Circuit.{Event, heard, Harmless, Run, traffic, signalsIn, Direction, nothingYet, Circuit, fresh, said, placesCall, NoCallPlaced, confirmedBy, acceptedBy, answeredBy, goesOn, next, after, AllHarmless}
-use Rattle.circuit.specs.Starts.{CallPlaced, CallCompleted, Begins, with-block, with-end, Starts, both-fresh, placed, completed}
+use Rattle.circuit.specs.Starts.{CallPlaced, CallCompleted, Begins, with-block, with-end, Call3Placed, CallTurned, Starts, both-fresh, placed, completed, placed3, turned}
 use Rattle.circuit.specs.Demand.{Carried, inHand, Kept}
 use Rattle.circuit.proofs.DamageLaws.{Mangled, mangled, mangled-silence, FirstIs, first-heard}
-use Rattle.circuit.proofs.Link.{Owed, none, unheard, heard as accepted, Link, s1-block, s1-rqs, s1-own, s1-rqs′, s1-other, s2-rqs, s2-cs3, s3-any, s3-cs3, s4-rq, s4-rqs, s5-asks, s5-rq, e1-alphas, e1-any, e2-any, e2-any′, e3-silence, e3-any, e4-any, c1-any, c1-silence, c2-call, c2-asks, Told, waiting, ahead, At, here, gone, Says, aloud, no-more, Linked, Moved, stays, takes-block, confirms, confirms-and-takes, Came, nothing-new, came, After}
-use Rattle.circuit.proofs.StepLaws.{idle, asks-first, acts-at}
+use Rattle.circuit.proofs.Link.{Owed, none, unheard, heard as accepted, Link, s1-block, s1-rqs, s1-own, s1-rqs′, s1-other, s2-rqs, s2-cs3, s3-any, s3-cs3, s4-rq, s4-rqs, s5-asks, s5-rq, e1-alphas, e1-any, e2-any, e2-any′, e3-silence, e3-any, e4-any, c1-any, i1-call, calls, Told, waiting, ahead, At, here, gone, Says, aloud, no-more, Linked, Moved, stays, takes-block, confirms, confirms-and-takes, Came, nothing-new, came, After}
+use Rattle.circuit.proofs.ReplyLaws.{asks-first}
+use Rattle.circuit.proofs.CallStepLaws.{call-places}
+use Rattle.circuit.proofs.StepLaws.{idle, acts-at}
 
 -- the lists of a direction
 signals-append : (l m : List Words) → signalsIn (l ++ m) ≡ signalsIn l ++ signalsIn m
@@ -97,8 +104,8 @@ still-at s (no-more q i) = gone q
 
 linked-again : (c : Circuit) (o : Offer) (b : Words) (r : Reply) (l : Linked c) →
     After (taking (c .hearer .place) (firstOf (b .0))) o (l .owed-hearer) (l .owed-sender) (l .sender-at) r (confirmedBy (c .hearer) b) (acceptedBy (c .hearer) b) →
-    Linked (answeredBy c o b r)
-linked-again c o b r l a =
+    Lettered (r .station) → Linked (answeredBy c o b r)
+linked-again c o b r l a k =
     record {
       hearer-at = l .sender-at;
       sender-at = a .place;
@@ -108,6 +115,8 @@ linked-again c o b r l a =
       link = a .link;
       hears = still-at (c .sender) (l .says);
       says = a .says;
+      hearer-lettered = l .sender-lettered;
+      sender-lettered = k;
       told-hearer = told-received (c .from-sender) (l .told-sender) (a .hears);
       told-sender = told-sent (c .from-hearer) (l .told-hearer) (a .sends);
     }
@@ -123,14 +132,16 @@ no-call-offered c e n = go (c .hearer .place) refl
     silent : (w : Waiting) (a : Answer Reply) → c .hearer .place ≡ StandBy w → said c e ≡ a → isTaken a ≡ false
     silent w (answered r) p i =
         let y = answers (c .hearer) (heard e (c .burst)) (e .offer) r i in
-        by-both (bothHeard (w .heard) (callOf (c .hearer .own .four) (heard e (c .burst)))) refl y
+        by-both (bothHeard (w .heard) (callOf (c .hearer .own .four) (heard e (c .burst)))) refl (allHeard (w .heard3) (call3Of (c .hearer .own .seven) (heard e (c .burst)))) refl y
       where
         by-both : (t : Bool) → bothHeard (w .heard) (callOf (c .hearer .own .four) (heard e (c .burst))) ≡ t →
+            (u : Bool) → allHeard (w .heard3) (call3Of (c .hearer .own .seven) (heard e (c .burst))) ≡ u →
             Answers (c .hearer) (heard e (c .burst)) (e .offer) r → r .taken ≡ false
-        by-both true b y = ap (λ (r : Reply). r .taken) (standby-answers (c .hearer) (heard e (c .burst)) (e .offer) r y w p b)
-        by-both false b y =
-            ap (λ (r : Reply). r .taken) (standby-listens (c .hearer) (heard e (c .burst)) (e .offer) r y w p b)
-            ∙ by-listen (λ (r : Reply). r .taken ≡ false) (c .hearer) _ (e .offer) (λ x q z. absurd (true≢false (sym (ap isCall q) ∙ n))) refl
+        by-both true b u d y = ap (λ (r : Reply). r .taken) (standby-answers (c .hearer) (heard e (c .burst)) (e .offer) r y w p b)
+        by-both false b true d y = ap (λ (r : Reply). r .taken) (standby-answers3 (c .hearer) (heard e (c .burst)) (e .offer) r y w p b d)
+        by-both false b false d y =
+            ap (λ (r : Reply). r .taken) (standby-listens (c .hearer) (heard e (c .burst)) (e .offer) r y w p b d)
+            ∙ by-listen (λ (r : Reply). r .taken ≡ false) (c .hearer) _ (e .offer) (λ x q z. absurd (true≢false (sym (ap isCall q) ∙ n))) (λ x q z. absurd (true≢false (sym (ap isCall q) ∙ n))) refl
     silent w (refused m v) p i = refl
 
     go : (q : Place) → c .hearer .place ≡ q → isStandBy q && isTaken (said c e) ≡ false
@@ -143,6 +154,9 @@ no-call-offered c e n = go (c .hearer .place) refl
     go Asking p = refl
     go Lost p = refl
     go (Calling d) p = refl
+    go (Calling3 d) p = refl
+    go (Identifying d) p = refl
+    go (Answering d) p = refl
 
 pub linked-next : (c : Circuit) (e : Event) → Harmless e → placesCall c e ≡ false → Linked c → Linked (next c e)
 linked-next c e h n l = go (said c e) refl
@@ -150,7 +164,7 @@ linked-next c e h n l = go (said c e) refl
     go : (a : Answer Reply) → said c e ≡ a → Linked (goesOn c e a)
     go (answered r) i =
         let y = answers (c .hearer) (heard e (c .burst)) (e .offer) r i in
-        linked-again c (e .offer) (heard e (c .burst)) r l (rw (y .is-done) (acts-at (c .hearer) (heard e (c .burst)) (e .offer) (l .hears) (l .link) (heard-mangled c e h (l .says)) (y .is-fine) (λ s. ap (λ (r : Reply). r .taken) (sym (y .is-done)) ∙ quiet c e r i n s)))
+        linked-again c (e .offer) (heard e (c .burst)) r l (rw (y .is-done) (acts-at (c .hearer) (heard e (c .burst)) (e .offer) (l .hears) (l .link) (l .hearer-lettered) (heard-mangled c e h (l .says)) (y .is-fine) (λ s. ap (λ (r : Reply). r .taken) (sym (y .is-done)) ∙ quiet c e r i n s))) (lettered-step (c .hearer) (heard e (c .burst)) (e .offer) r i (l .hearer-lettered))
     go (refused n v) i = l
 
 -- every run
@@ -166,6 +180,8 @@ linked-fresh =
       link = s5-asks;
       hears = here refl;
       says = aloud refl refl;
+      hearer-lettered = tt;
+      sender-lettered = tt;
       told-hearer = record { taken-is = refl; accepted-is = refl; printed-is = refl };
       told-sender = record { taken-is = refl; accepted-is = refl; printed-is = refl };
     }
@@ -179,6 +195,9 @@ block-told : (b : Words) (d : Direction) → d ≡ record { taken = b ∷ []; ac
 unfolding signalsIn
 block-told b d e = rw e (record { taken-is = refl; accepted-is = refl; printed-is = refl })
 
+lettered-at : {p : Place} (s : Station) → s .place ≡ p → letteredAt (s .own) p → Lettered s
+lettered-at s e l = subst (letteredAt (s .own)) (sym e) l
+
 linked-placed : (i : Identity) (c : Circuit) → CallPlaced i c → Linked c
 linked-placed i c y =
     let w = is-standby (c .hearer .place) (y .hearer-at) in
@@ -188,9 +207,11 @@ linked-placed i c y =
       would-say = _;
       owed-hearer = _;
       owed-sender = _;
-      link = c1-any {x = w .0};
+      link = calls (c1-any {x = w .0});
       hears = here (w .1);
       says = aloud (ap (λ (s : Station). s .place) (y .sender-is)) refl;
+      hearer-lettered = lettered-at (c .hearer) (w .1) tt;
+      sender-lettered = lettered-at (c .sender) (ap (λ (s : Station). s .place) (y .sender-is)) tt;
       told-hearer = none-told (c .from-hearer) (y .none-from-hearer);
       told-sender = none-told (c .from-sender) (y .none-from-sender);
     }
@@ -209,6 +230,8 @@ linked-completed c y = go (y .begins)
           link = s1-block i;
           hears = here (y .hearer-place);
           says = aloud p q;
+          hearer-lettered = lettered-at (c .hearer) (y .hearer-place) tt;
+          sender-lettered = lettered-at (c .sender) p tt;
           told-hearer = none-told (c .from-hearer) (y .none-from-hearer);
           told-sender = block-told b (c .from-sender) d;
         }
@@ -222,14 +245,53 @@ linked-completed c y = go (y .begins)
           link = e1-alphas;
           hears = here (y .hearer-place);
           says = aloud p q;
+          hearer-lettered = lettered-at (c .hearer) (y .hearer-place) tt;
+          sender-lettered = lettered-at (c .sender) p tt;
           told-hearer = none-told (c .from-hearer) (y .none-from-hearer);
           told-sender = none-told (c .from-sender) d;
         }
+
+linked-placed3 : (i : Seven) (c : Circuit) → Call3Placed i c → Linked c
+unfolding nextBlock3
+linked-placed3 i c y =
+    record {
+      hearer-at = _;
+      sender-at = _;
+      would-say = _;
+      owed-hearer = _;
+      owed-sender = _;
+      link = calls (i1-call {x = y .waits} {c = record { to = i; sent = 1 }} 0 (y .called-letters) (ap (λ (m : Mark). marks m Two) (y .none-heard)));
+      hears = here (y .hearer-at);
+      says = aloud (ap (λ (s : Station). s .place) (y .sender-is)) (y .burst-is);
+      hearer-lettered = lettered-at (c .hearer) (y .hearer-at) tt;
+      sender-lettered = subst Lettered (sym (y .sender-is)) (y .called-letters, y .caller-letters);
+      told-hearer = none-told (c .from-hearer) (y .none-from-hearer);
+      told-sender = none-told (c .from-sender) (y .none-from-sender);
+    }
+
+linked-turned : (c : Circuit) → CallTurned c → Linked c
+linked-turned c y =
+    record {
+      hearer-at = _;
+      sender-at = _;
+      would-say = _;
+      owed-hearer = _;
+      owed-sender = _;
+      link = s3-any {n = Two};
+      hears = here (y .hearer-place);
+      says = aloud (y .sender-place) (y .burst-is);
+      hearer-lettered = lettered-at (c .hearer) (y .hearer-place) tt;
+      sender-lettered = lettered-at (c .sender) (y .sender-place) tt;
+      told-hearer = none-told (c .from-hearer) (y .none-from-hearer);
+      told-sender = none-told (c .from-sender) (y .none-from-sender);
+    }
 
 linked-start : (c : Circuit) → Starts c → Linked c
 linked-start c both-fresh = linked-fresh
 linked-start c (placed {i = i} y) = linked-placed i c y
 linked-start c (completed y) = linked-completed c y
+linked-start c (placed3 {i = i} y) = linked-placed3 i c y
+linked-start c (turned y) = linked-turned c y
 
 pub linked : (c : Circuit) → Starts c → (run : Run) → AllHarmless run → NoCallPlaced c run → Linked (after c run)
 unfolding after AllHarmless NoCallPlaced
@@ -264,6 +326,21 @@ carried o d u =
       ahead-by-at-most-one = omega (arith, one-ahead o, ap length (u .accepted-is), length-append (d .confirmed) (ahead o));
     }
 
+-- what is told by what is held at Sending is the same at every other place
+pub not-at-sending {ℓ} : {A : Type ℓ} (f : Held → A) (a : A) (x : Place) → isSending x ≡ false → atSending f a x ≡ a
+not-at-sending f a (Sending h) e = absurd (true≢false e)
+not-at-sending f a (Turning n) e = refl
+not-at-sending f a Opening e = refl
+not-at-sending f a (Ending x) e = refl
+not-at-sending f a (Receiving n) e = refl
+not-at-sending f a Asking e = refl
+not-at-sending f a (StandBy w) e = refl
+not-at-sending f a Lost e = refl
+not-at-sending f a (Calling c) e = refl
+not-at-sending f a (Calling3 c) e = refl
+not-at-sending f a (Identifying i) e = refl
+not-at-sending f a (Answering g) e = refl
+
 -- what is owed is what the station holds
 owed-hearer : {x p : Place} {w : Words} {ox op : Owed} → Link x p w ox op → waiting ox ≡ inHand x
 owed-hearer (s1-block i) = refl
@@ -286,10 +363,7 @@ owed-hearer (e2-any′ q) = refl
 owed-hearer e3-silence = refl
 owed-hearer (e3-any q) = refl
 owed-hearer (e4-any q) = refl
-owed-hearer c1-any = refl
-owed-hearer c1-silence = refl
-owed-hearer (c2-call i j) = refl
-owed-hearer c2-asks = refl
+owed-hearer (calls {x = x} k) = sym (not-at-sending _ [] x (call-places k .0))
 
 owed-sender : {x p : Place} {w : Words} {ox op : Owed} → Link x p w ox op → waiting op ≡ inHand p
 owed-sender l = owed-hearer (idle l .1)
@@ -342,10 +416,7 @@ facing-sender (e2-any′ q) = refl
 facing-sender e3-silence = refl
 facing-sender (e3-any q) = refl
 facing-sender (e4-any q) = refl
-facing-sender c1-any = refl
-facing-sender c1-silence = refl
-facing-sender (c2-call i j) = refl
-facing-sender c2-asks = refl
+facing-sender (calls k) = rw (call-places k .1)
 
 -- a station that is not Lost is where its link says
 pub place-here : {x q : Place} (s : Station) → At s x → s .place ≡ q → (q ≡ Lost → ⊥) → x ≡ q
@@ -377,7 +448,7 @@ abbrev isCs3 : First → Bool
 isCs3 (Cs n) = false
 isCs3 Cs3 = true
 isCs3 Rq = false
-isCs3 Else = false
+isCs3 (Else x) = false
 
 pub no-cs3 : {x p : Place} {w : Words} {ox op : Owed} → Link x p w ox op → isOpening x && isCs3 (firstOf (w .0)) ≡ false
 unfolding firstOf
@@ -401,10 +472,7 @@ no-cs3 (e2-any′ q) = refl
 no-cs3 e3-silence = refl
 no-cs3 (e3-any q) = refl
 no-cs3 (e4-any q) = refl
-no-cs3 c1-any = refl
-no-cs3 c1-silence = refl
-no-cs3 (c2-call i j) = refl
-no-cs3 c2-asks = refl
+no-cs3 (calls k) = rw (call-places k .2)
 
 kept-cs3 : (f g : First) → FirstIs f g → g ≡ Cs3 → isCs3 f ≡ true
 kept-cs3 f g FirstIs.said e = rw e

@@ -9,24 +9,26 @@ use borrow.Author.Tests.{leb-false, le-leb}
 use Rattle.signals.specs.Numbers.{Answer, answered, refused}
 use Rattle.mode_a.specs.declared.Role.{Role}
 use Rattle.mode_a.specs.declared.Number.{Number}
+use Rattle.mode_a.specs.declared.Own.{Own}
+use Rattle.mode_a.specs.declared.Peer.the-variants.{Known}
 use Rattle.mode_a.specs.declared.Words.{Words}
 use Rattle.mode_a.specs.declared.Place.{Place}
-use Rattle.mode_a.specs.declared.Place.the-variants.{Sending, Turning, Opening, Ending, Receiving, Asking, StandBy, Lost, Calling}
+use Rattle.mode_a.specs.declared.Place.the-variants.{Sending, Turning, Opening, Ending, Receiving, Asking, StandBy, Lost, Calling, Calling3, Identifying, Answering}
 use Rattle.mode_a.specs.declared.Offer.{Offer}
 use Rattle.mode_a.specs.declared.Station.{Station}
 use Rattle.mode_a.specs.declared.Listening.{Listening}
 use Rattle.mode_a.specs.declared.Doing.{Doing}
-use Rattle.mode_a.specs.declared.Doing.the-variants.{Repeats, Goes, Takes, Receives, Opens, Accepts, Rests, Answers, Listens, Reaches}
+use Rattle.mode_a.specs.declared.Doing.the-variants.{Repeats, Goes, Takes, Receives, Opens, Accepts, Rests, Answers, Listens, Reaches, Answers3, Bars, Ends, Turns, Meets, Again}
 use Rattle.mode_a.specs.declared.Reply.{Reply}
 use Rattle.mode_a.specs.Heard.{Heard, heardOf}
 use Rattle.mode_a.specs.Over.{listenedAll}
 use Rattle.mode_a.specs.Rows.{rowOf}
-use Rattle.mode_a.specs.Step.{reached, takes, repeats, isOver, acceptsBy, done, soundPlace, sound}
+use Rattle.mode_a.specs.Step.{knowing, takes, repeats, isOver, acceptsBy, done, soundPlace, sound}
 use Rattle.runs.specs.Runs.{start, _▷_, isAnswered, InOrder}
-use Rattle.runs.proofs.RowLaws.{by-sending, by-turning, by-opening, by-ending, by-receiving, by-asking, by-standing, by-calling}
-use Rattle.runs.proofs.StepLaws.{answers, is-answered, held-block, by-repeat, by-take-block, by-accept, by-listen}
+use Rattle.runs.proofs.RowLaws.{by-sending, by-turning, by-opening, by-ending, by-receiving, by-asking, by-standing, by-calling, by-calling3, by-identifying, by-answering}
+use Rattle.runs.proofs.StepLaws.{answers, is-answered, held-block, by-repeat, by-take-block, by-accept, by-listen, by-again, by-meet}
 use Rattle.circuit.specs.Circuit.{Event, heard, Run, Circuit, said, goesOn, next, after}
-use Rattle.circuit.specs.Starts.{Begins, with-block, with-end, Starts, both-fresh, placed, completed}
+use Rattle.circuit.specs.Starts.{Begins, with-block, with-end, Starts, both-fresh, placed, completed, placed3, turned}
 
 -- what a row may do at a sound place
 abbrev Fits : Doing → Type 0
@@ -39,27 +41,37 @@ Fits (Accepts n) = Unit {0}
 Fits (Rests n w) = Unit {0}
 Fits Answers = Unit {0}
 Fits (Listens w) = Unit {0}
-Fits (Reaches i n) = Unit {0}
+Fits (Reaches p n) = Unit {0}
+Fits Answers3 = Unit {0}
+Fits (Bars i) = Unit {0}
+Fits (Ends i) = Unit {0}
+Fits (Turns i) = Unit {0}
+Fits (Meets i) = Unit {0}
+Fits (Again p w) = soundPlace p ≡ true
 
-row-fits : (r : Role) (x : Place) (h : Heard) → soundPlace x ≡ true → Fits (rowOf r x h)
-row-fits r (Sending b) h s = by-sending Fits b (h .first) (λ c. tt) (λ c. tt) (λ c. refl) (λ c. tt)
-row-fits r (Turning n) h s = by-turning Fits r n h tt tt tt
-row-fits r Opening h s = by-opening Fits r (h .first) (λ n. tt) tt tt
-row-fits r (Ending e) h s =
+row-fits : (own : Own) (r : Role) (x : Place) (h : Heard) → soundPlace x ≡ true → Fits (rowOf own r x h)
+row-fits own r (Sending b) h s = by-sending Fits b (h .first) (λ c. tt) (λ c. tt) (λ c. refl) (λ c. tt)
+row-fits own r (Turning n) h s = by-turning Fits r n h tt tt tt
+row-fits own r Opening h s = by-opening Fits r (h .first) (λ n. tt) tt tt
+row-fits own r (Ending e) h s =
     by-ending Fits e (h .first) tt (λ i. let l = leb-false 4 (e .total) i in rw (le-leb 1 (e .total + 1) (omega arith), le-leb (e .total + 1) 4 (omega arith)))
-row-fits r (Receiving n) h s = by-receiving Fits n h (λ c. tt) (λ c. tt) (λ c. tt)
-row-fits r Asking h s = by-asking Fits h tt tt
-row-fits r (StandBy w) h s = by-standing Fits w (h .call) (λ c. tt) (λ c. tt)
-row-fits r Lost h s = refl
-row-fits r (Calling c) h s = by-calling Fits c (h .first) (λ n e i. tt) tt (λ i. refl)
+row-fits own r (Receiving n) h s = by-receiving Fits n h (λ c. tt) (λ c. tt) (λ c. tt)
+row-fits own r Asking h s = by-asking Fits h tt tt
+row-fits own r (StandBy w) h s = by-standing Fits w (h .call) (h .call3) (λ c. tt) (λ c d. tt) (λ c d. tt)
+row-fits own r Lost h s = refl
+row-fits own r (Calling c) h s = by-calling Fits c (h .first) (λ n e i. tt) tt (λ i. refl)
+row-fits own r (Calling3 c) h s = by-calling3 Fits (own .seven) c (h .first) (λ e. refl) (λ e. tt) tt (λ e. refl)
+row-fits own r (Identifying i) h s =
+    by-identifying Fits (own .seven) i (h .first) (λ w. refl) (λ w l. refl) (λ v e w l k. refl) (λ v e w l. refl) (λ w l. tt) (λ e l. tt) (λ e l. tt)
+row-fits own r (Answering g) h s = by-answering Fits (own .seven) g h tt (λ l. tt) (λ l g′ w. refl) (λ g′ w. refl)
 
 -- what the station then is
 Sound : Reply → Type 0
 Sound r = sound (r .station) ≡ true
 
-takes-fit : (s : Station) (n : Number) (o : Offer) → InOrder o → Sound (takes s n o)
+takes-fit : (s : Station) (n : Number) (own : Own) (o : Offer) → InOrder own o → Sound (takes s n o)
 unfolding sound Sound
-takes-fit s n o i = by-take-block Sound s n o i (λ w t y. held-block w ∙ y) refl
+takes-fit s n own o i = by-take-block Sound s n own o i (λ w t y. held-block w ∙ y) refl
 
 accepts-fit : (s : Station) (n : Number) (b : Words) (t : Bool) (l : Listening) → Sound (acceptsBy s n b t l)
 unfolding sound Sound
@@ -70,19 +82,26 @@ unfolding sound Sound
 repeats-fit s w i =
     by-repeat Sound s w (λ e. refl) (λ e. let h = leb-false 31 (s .count) e in rw (le-leb (s .count + 1) 31 (omega arith)) (and-eq-true-iff (leb (s .count) 31) (soundPlace (s .place)) .0 i .1))
 
-done-fits : (s : Station) (b : Words) (o : Offer) (d : Doing) → sound s ≡ true → InOrder o → Fits d →
+done-fits : (s : Station) (b : Words) (o : Offer) (d : Doing) → sound s ≡ true → InOrder (s .own) o → Fits d →
     Sound (done s b o d)
 unfolding done sound Sound
 done-fits s b o (Repeats w) i y f = repeats-fit s w i
 done-fits s b o (Goes p w) i y f = f
-done-fits s b o (Takes n) i y f = takes-fit s n o y
+done-fits s b o (Takes n) i y f = takes-fit s n (s .own) o y
 done-fits s b o (Receives n) i y f = refl
 done-fits s b o Opens i y f = refl
 done-fits s b o (Accepts n) i y f = accepts-fit s n b (isOver o) (listenedAll (s .case) (s .plus) b)
 done-fits s b o (Rests n w) i y f = refl
 done-fits s b o Answers i y f = refl
-done-fits s b o (Listens w) i y f = by-listen Sound s w o (λ x e z. refl) refl
-done-fits s b o (Reaches x n) i y f = takes-fit (reached s x) n o y
+done-fits s b o (Listens w) i y f = by-listen Sound s w o (λ x e z. refl) (λ x e z. refl) refl
+done-fits s b o (Reaches p n) i y f = takes-fit (knowing s p) n (s .own) o y
+done-fits s b o Answers3 i y f = refl
+done-fits s b o (Bars x) i y f = refl
+done-fits s b o (Ends x) i y f = refl
+done-fits s b o (Turns x) i y f = refl
+done-fits s b o (Meets x) i y f = by-meet Sound (knowing s (Known x)) (isOver o) refl refl
+done-fits s b o (Again p w) i y f =
+    by-again Sound s p w (λ e. refl) (λ e. let h = leb-false 31 (s .count) e in rw (le-leb (s .count + 1) 31 (omega arith)) f)
 
 -- every run
 pub record BothSound (c : Circuit) : Type 0 where
@@ -98,7 +117,7 @@ sound-next c e s = go (said c e) refl
         let y = answers (c .hearer) (heard e (c .burst)) (e .offer) r i in
         record {
           hearer-sound = s .sender-sound;
-          sender-sound = ap (λ (r : Reply). sound (r .station)) (y .is-done) ∙ done-fits (c .hearer) (heard e (c .burst)) (e .offer) _ (s .hearer-sound) (y .is-fine) (row-fits (c .hearer .role) (c .hearer .place) (heardOf (c .hearer .own) (heard e (c .burst))) (and-eq-true-iff (leb (c .hearer .count) 31) (soundPlace (c .hearer .place)) .0 (s .hearer-sound) .1));
+          sender-sound = ap (λ (r : Reply). sound (r .station)) (y .is-done) ∙ done-fits (c .hearer) (heard e (c .burst)) (e .offer) _ (s .hearer-sound) (y .is-fine) (row-fits (c .hearer .own) (c .hearer .role) (c .hearer .place) (heardOf (c .hearer .own) (heard e (c .burst))) (and-eq-true-iff (leb (c .hearer .count) 31) (soundPlace (c .hearer .place)) .0 (s .hearer-sound) .1));
         }
     go (refused n v) i = s
 
@@ -112,6 +131,8 @@ sound-start c (completed y) = record { hearer-sound = rw (y .hearer-place, y .he
     go : Begins c → leb (c .sender .count) 31 && soundPlace (c .sender .place) ≡ true
     go (with-block {b = b} i p q d) = rw (y .sender-count, p) (held-block b ∙ i)
     go (with-end p q d) = rw (y .sender-count, p)
+sound-start c (placed3 y) = record { hearer-sound = y .hearer-sound; sender-sound = rw (y .sender-is) }
+sound-start c (turned y) = record { hearer-sound = rw (y .hearer-place, y .hearer-count); sender-sound = rw (y .sender-count, y .sender-place) }
 
 pub sound-run : (c : Circuit) → Starts c → (run : Run) → BothSound (after c run)
 unfolding after
@@ -119,5 +140,5 @@ sound-run c y start = sound-start c y
 sound-run c y (run ▷ e) = sound-next (after c run) e (sound-run c y run)
 
 -- so a step is refused only for its offer
-pub answered-if : (c : Circuit) → BothSound c → (e : Event) → InOrder (e .offer) → isAnswered (said c e) ≡ true
+pub answered-if : (c : Circuit) → BothSound c → (e : Event) → InOrder (c .hearer .own) (e .offer) → isAnswered (said c e) ≡ true
 answered-if c s e i = ap isAnswered (is-answered (c .hearer) (heard e (c .burst)) (e .offer) (s .hearer-sound) i)

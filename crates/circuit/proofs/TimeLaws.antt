@@ -38,7 +38,7 @@ NotLost r = isLost (r .station .place) ≡ false
 -- What the station s sends that has heard the confirmation from a station at x: the offer, under the number that x awaits, or βαβ to
 -- one that asks for the turn.
 pub data Follows (s : Station) (x : Place) (r : Reply) : Type 0 where
-  took : {n : Number} (o : Offer) → InOrder o → x ≡ Receiving n → r ≡ takes s n o → Follows s x r
+  took : {n : Number} (o : Offer) → InOrder (s .own) o → x ≡ Receiving n → r ≡ takes s n o → Follows s x r
   turns : {n : Number} → x ≡ Asking → r ≡ sends (movedTo s (Turning n)) βαβ → Follows s x r
 
 -- to repeat at a count of 0 is to stay
@@ -54,7 +54,7 @@ unfolding NotLost
 accepted-in-time s n b t l = by-accept NotLost s n b t l (λ u. refl) refl
 
 -- Receiving that hears the offer's block, or ααα
-hears-offer : (s y : Station) (n : Number) (o p : Offer) → InOrder o →
+hears-offer : (s y : Station) (n : Number) (o p : Offer) → InOrder (s .own) o →
     NotLost (done y (takes s n o .sent) p (receiving n (heardOf (y .own) (takes s n o .sent))))
 unfolding NotLost done heardOf isBlock mayHold trafficOf meaningOf isWords
 hears-offer s y n (Offer.Text w) p i = rw i (accepted-in-time y n w (isOver p) (listenedAll (y .case) (y .plus) w))
@@ -62,6 +62,7 @@ hears-offer s y n Offer.Over p i = accepted-in-time y n _ (isOver p) (listenedAl
 hears-offer s y n Offer.End p i = refl
 hears-offer s y n Offer.Nothing p i = accepted-in-time y n _ (isOver p) (listenedAll (y .case) (y .plus) _)
 hears-offer s y n (Offer.Call x) p i = accepted-in-time y n _ (isOver p) (listenedAll (y .case) (y .plus) _)
+hears-offer s y n (Offer.Call3 x) p i = accepted-in-time y n _ (isOver p) (listenedAll (y .case) (y .plus) _)
 
 -- the sender, at a count of 0
 module _ (y : Station) (b : Words) (p : Offer) (zero-count : y .count ≡ 0) (here : isLost (y .place) ≡ false) where
@@ -85,9 +86,9 @@ module _ (y : Station) (b : Words) (p : Offer) (zero-count : y .count ≡ 0) (he
   at-ending e f = by-ending InTimeBy e f refl (λ l. refl)
 
 has-taken : (s : Station) (n : Number) (o : Offer) (b : Words) (p : Offer) → let y = takes s n o .station in
-    NotLost (done y b p (rowOf (y .role) (y .place) (heardOf (y .own) b)))
+    NotLost (done y b p (rowOf (y .own) (y .role) (y .place) (heardOf (y .own) b)))
 has-taken s n o b p =
-    by-take (λ (r : Reply). let y = r .station in NotLost (done y b p (rowOf (y .role) (y .place) (heardOf (y .own) b)))) s n o (λ w t. at-sending _ b p refl refl (held n w) (heardOf (s .own) b .first)) (at-ending _ b p refl refl (record { number = n; total = 1 }) (heardOf (s .own) b .first))
+    by-take (λ (r : Reply). let y = r .station in NotLost (done y b p (rowOf (y .own) (y .role) (y .place) (heardOf (y .own) b)))) s n o (λ w t. at-sending _ b p refl refl (held n w) (heardOf (s .own) b .first)) (at-ending _ b p refl refl (record { number = n; total = 1 }) (heardOf (s .own) b .first))
 
 -- so neither is Lost then, nor in the exchange that follows
 module _ (s : Station) (x : Place) (r : Reply) where

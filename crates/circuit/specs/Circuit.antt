@@ -1,5 +1,5 @@
 -- 01, How the promises are judged: a fresh master and a fresh slave of mode A, no third sender: every run of the two.  R-094, R-172
--- And 02, T-02: two stations of which one has called the other.
+-- And 02, T-02 and T-05: two stations of which one has called the other.
 --
 -- "its first burst is CS1": of fresh stations the slave's CS1 is on the way when the run starts; after a call the master's burst
 -- is. Bursts alternate, and each is heard once: the station that hears answers, and the other hears that next. An event is what
@@ -79,6 +79,7 @@ blockOf Offer.Over = words figures cross query ∷ []
 blockOf Offer.End = []
 blockOf Offer.Nothing = words beta beta beta ∷ []
 blockOf (Offer.Call i) = words beta beta beta ∷ []
+blockOf (Offer.Call3 i) = words beta beta beta ∷ []
 
 abbrev pub takenIf : Bool → Offer → Reply → List Words
 takenIf t o r = if t && isSending (r .station .place) then blockOf o else []

@@ -94,7 +94,7 @@ pub record Demand3 (c : Circuit) : Type 0 where
   pub two-are-needed : (h : Held) (d : Circuit) → c .sender .place ≡ Sending h → Exchanged c d → AwaitsAtRq h c →
       d .from-sender .confirmed ≡ c .from-sender .confirmed
   pub opening-hears-no-cs3 : (e : Event) → Harmless e → c .hearer .place ≡ Opening → ¬ (firstOf (heard e (c .burst) .0) ≡ Cs3)
-  pub refuses-only-offers : (e : Event) → InOrder (e .offer) → isAnswered (said c e) ≡ true
+  pub refuses-only-offers : (e : Event) → InOrder (c .hearer .own) (e .offer) → isAnswered (said c e) ≡ true
 
 -- of every run
 abbrev pub OfEveryRun : Type 0

@@ -14,12 +14,15 @@ use Rattle.mode_a.specs.declared.Number.{Number}
 use Rattle.mode_a.specs.declared.Number.the-variants.{One, Two}
 use Rattle.mode_a.specs.declared.Words.{Words}
 use Rattle.mode_a.specs.declared.Identity.{Identity}
+use Rattle.mode_a.specs.declared.Own.{Own}
 use Rattle.mode_a.specs.declared.Place.{Place}
 use Rattle.mode_a.specs.declared.Place.the-variants.{Receiving, Asking}
 use Rattle.mode_a.specs.declared.Offer.{Offer}
-use Rattle.mode_a.specs.Calls.{isIdentity, isCallable, callBlock1, callBlock2, nextBlock}
-use Rattle.mode_a.specs.Station.{words, silence, freshSlave, freshAt}
-use Rattle.mode_a.specs.Heard.{firstOf, mayHold, isBlock, isWords, callOf, heardOf}
+use Rattle.identity.specs.Table3.{isIdentity}
+use Rattle.identity.specs.Sums.{isCallable7}
+use Rattle.mode_a.specs.Calls.{isCallable, callBlock1, callBlock2, nextBlock}
+use Rattle.mode_a.specs.Station.{words, silence, freshSlave, freshAt, noSeven}
+use Rattle.mode_a.specs.Heard.{firstOf, mayHold, isBlock, isWords, callOf, call3Of, heardOf}
 use Rattle.mode_a.specs.Over.{query, cross, listened}
 use Rattle.mode_a.specs.Step.{trafficIn, done, sound, stepping}
 use Rattle.runs.specs.Runs.{Event, Run, start, _▷_, after}
@@ -73,6 +76,9 @@ figures-after-turn = record { beginning = []; betas = 0; rest = beta ∷ []; spl
 abbrev somebody : Identity
 somebody = record { 0 = wordNo 22; 1 = wordNo 24; 2 = wordNo 17; 3 = wordNo 11 }
 
+abbrev set : Own
+set = record { four = somebody; seven = noSeven }
+
 abbrev calls : Event
 calls = record { burst = silence; offer = Offer.Call somebody }
 
@@ -88,16 +94,16 @@ turnedAfterCall = called ▷ hears cs3 0 0 ▷ hears rq rq rq
 
 -- Stand-by keeps the case; a call sets it to letters, and then nothing is accepted yet
 pub letters-by-the-call : (after freshSlave ended .case ≡ Figures) × (after freshSlave (ended ▷ calls) .case ≡ Letters) × (after freshSlave called .case ≡ Letters) × (accepted freshSlave called ≡ [])
-unfolding accepted earlier since caseAfter stepping sound done firstNot isBlock mayHold trafficOf meaningOf heardOf firstOf isWords listened trafficIn callOf isCallable isIdentity nextBlock
+unfolding accepted earlier since caseAfter stepping sound done firstNot isBlock mayHold trafficOf meaningOf heardOf firstOf isWords listened trafficIn callOf call3Of isCallable isCallable7 isIdentity nextBlock
 letters-by-the-call = (refl, refl, refl, refl)
 
 -- so + and ? are letters in the next circuit, where after a turn (`figures-after-turn`) they would be an over
 call-between : OverIn Slave turnedAfterCall (hears cross query beta) → ⊥
-unfolding accepted earlier since caseAfter stepping sound done firstNot isBlock mayHold trafficOf meaningOf heardOf firstOf isWords listened trafficIn callOf isCallable isIdentity nextBlock
+unfolding accepted earlier since caseAfter stepping sound done firstNot isBlock mayHold trafficOf meaningOf heardOf firstOf isWords listened trafficIn callOf call3Of isCallable isCallable7 isIdentity nextBlock
 call-between h = elsewhere _ One refl (over-heard-exactly Slave turnedAfterCall (hears cross query beta) refl refl .1 h)
 
 over-after-call : OverIn Slave turnedAfterCall (hears figures cross query)
-unfolding accepted earlier since caseAfter stepping sound done firstNot isBlock mayHold trafficOf meaningOf heardOf firstOf isWords listened trafficIn callOf isCallable isIdentity nextBlock
+unfolding accepted earlier since caseAfter stepping sound done firstNot isBlock mayHold trafficOf meaningOf heardOf firstOf isWords listened trafficIn callOf call3Of isCallable isCallable7 isIdentity nextBlock
 over-after-call = record { beginning = figures ∷ []; betas = 0; rest = []; split = refl; in-block = omega arith; figures-at-cross = refl; figures-at-query = refl }
 
 -- the same where the call is answered: a station that hears its own call blocks, accepts figures and a +, is left by ααα, and is called
@@ -109,10 +115,10 @@ abbrev answeredTwice : Run
 answeredTwice =
     start ▷ hearsAll (callBlock1 somebody) ▷ hearsAll (callBlock2 somebody) ▷ hears figures cross beta ▷ hears alpha alpha alpha ▷ hearsAll (callBlock2 somebody) ▷ hearsAll (callBlock1 somebody)
 
-answer-between : HeardOver Letters (earlier (freshAt somebody) answeredTwice) (since (freshAt somebody) answeredTwice) (cross ∷ query ∷ beta ∷ []) → ⊥
-unfolding accepted earlier since caseAfter stepping sound done firstNot isBlock mayHold trafficOf meaningOf heardOf firstOf isWords listened trafficIn callOf isCallable isIdentity nextBlock
-answer-between h = elsewhere _ Two refl (standing-asks-exactly somebody answeredTwice (hears cross query beta) refl .1 (inl h))
+answer-between : HeardOver Letters (earlier (freshAt set) answeredTwice) (since (freshAt set) answeredTwice) (cross ∷ query ∷ beta ∷ []) → ⊥
+unfolding accepted earlier since caseAfter stepping sound done firstNot isBlock mayHold trafficOf meaningOf heardOf firstOf isWords listened trafficIn callOf call3Of isCallable isCallable7 isIdentity nextBlock
+answer-between h = elsewhere _ Two refl (standing-asks-exactly set answeredTwice (hears cross query beta) refl .1 (inl h))
 
-over-after-answer : HeardOver Letters (earlier (freshAt somebody) answeredTwice) (since (freshAt somebody) answeredTwice) (figures ∷ cross ∷ query ∷ [])
-unfolding accepted earlier since caseAfter stepping sound done firstNot isBlock mayHold trafficOf meaningOf heardOf firstOf isWords listened trafficIn callOf isCallable isIdentity nextBlock
+over-after-answer : HeardOver Letters (earlier (freshAt set) answeredTwice) (since (freshAt set) answeredTwice) (figures ∷ cross ∷ query ∷ [])
+unfolding accepted earlier since caseAfter stepping sound done firstNot isBlock mayHold trafficOf meaningOf heardOf firstOf isWords listened trafficIn callOf call3Of isCallable isCallable7 isIdentity nextBlock
 over-after-answer = record { beginning = figures ∷ []; betas = 0; rest = []; split = refl; in-block = omega arith; figures-at-cross = refl; figures-at-query = refl }

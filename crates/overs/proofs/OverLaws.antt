@@ -1,7 +1,7 @@
 -- 01, The station: "The over is heard when ? follows + in figures case with only β between, within a block or across blocks; any
 -- other signal between cancels it, and so does the step from Asking to Opening or from Turning to Receiving. Only accepted blocks
 -- count here. The case of a direction starts at letters and lasts through turns."  R-086 to R-091. A call that is placed or answered
--- (02, T-02) begins another circuit: what is said of the words accepted is said of those since.
+-- (02, T-02 and T-05) begins another circuit: what is said of the words accepted is said of those since.
 --     over-heard-exactly      a block of any run of a fresh station, no over being offered: it goes to Asking exactly where the
 --                             words accepted since the last cancelling step split so (`HeardOver`)
 --     asking-exactly          the same whatever is offered: exactly where they split so, or the offer is over
@@ -22,7 +22,7 @@ use Rattle.signals.specs.declared.Case.the-variants.{Letters, Figures}
 use Rattle.signals.specs.Meaning.{beta}
 use Rattle.mode_a.specs.declared.Role.{Role}
 use Rattle.mode_a.specs.declared.Role.the-variants.{Master, Slave}
-use Rattle.mode_a.specs.declared.Identity.{Identity}
+use Rattle.mode_a.specs.declared.Own.{Own}
 use Rattle.mode_a.specs.declared.Place.the-variants.{Asking}
 use Rattle.mode_a.specs.declared.Station.{Station}
 use Rattle.mode_a.specs.declared.Listening.{Listening}
@@ -197,6 +197,6 @@ module _ (role : Role) (run : Run) (e : Event) (a : isAccepted (after (fresh rol
       only (inl h) = h
       only (inr t) = absurd (false≢true (sym o ∙ t))
 
--- 02, T-02: the same of a station at Stand-by with an identity, which may be called
-pub standing-asks-exactly : (i : Identity) (run : Run) (e : Event) → isAccepted (after (freshAt i) run) e ≡ true → (after (freshAt i) (run ▷ e) .place ≡ Asking) ↔ (HeardOver Letters (earlier (freshAt i) run) (since (freshAt i) run) (listOf (e .burst)) ⊎ (isOver (e .offer) ≡ true))
-standing-asks-exactly i = from-fresh (freshAt i) refl refl
+-- 02, T-02 and T-05: the same of a station at Stand-by with its identities, which may be called
+pub standing-asks-exactly : (own : Own) (run : Run) (e : Event) → isAccepted (after (freshAt own) run) e ≡ true → (after (freshAt own) (run ▷ e) .place ≡ Asking) ↔ (HeardOver Letters (earlier (freshAt own) run) (since (freshAt own) run) (listOf (e .burst)) ⊎ (isOver (e .offer) ≡ true))
+standing-asks-exactly own = from-fresh (freshAt own) refl refl

@@ -11,7 +11,7 @@
 --     ? ..          may have signals behind it in its block; the over is heard in the block that has the ?
 -- A turn cancels the + and leaves the case. Blocks that the station sends, and bursts that it does not accept, are in no list.
 --
--- A station at Stand-by "hears and places calls" (02, T-02), and a call begins another circuit, whose direction "starts at letters" too,
+-- A station at Stand-by "hears and places calls" (02, T-02 and T-05), and a call begins another circuit, whose direction "starts at letters" too,
 -- with no + heard. So at the step that places or answers a call every list begins anew, and figures case of the circuit before it makes
 -- no over in the next. What is easily got wrong: it is that step, and neither the one before that goes to Stand-by (the case stays) nor
 -- the one after that completes the call.
@@ -33,7 +33,7 @@ use Rattle.mode_a.specs.declared.Station.{Station}
 use Rattle.mode_a.specs.Station.{listOf, freshMaster, freshSlave}
 use Rattle.mode_a.specs.Heard.{heardOf}
 use Rattle.mode_a.specs.Over.{query, cross}
-use Rattle.runs.specs.Places.{isTurning, isOpening, isReceiving, isAsking, isStandBy, isCalling}
+use Rattle.runs.specs.Places.{isTurning, isOpening, isReceiving, isAsking, isStandBy, isCalling, isCalling3, isAnswering}
 use Rattle.runs.specs.Runs.{Event, Run, start, _▷_, said, next, after, isAnswered, accepting}
 
 -- "A fresh master is Opening. A fresh slave is Receiving, awaits 1"  R-092, R-093, R-095
@@ -55,9 +55,13 @@ cancelling p q = isAsking p && isOpening q || isTurning p && isReceiving q
 abbrev pub cancels : Station → Event → Bool
 cancels s e = cancelling (s .place) (next s e .place)
 
--- a call is placed or answered: the step from Stand-by to Calling or to Receiving, told likewise  02, T-02
+-- a call is placed or answered: the step from Stand-by to Calling, with two blocks or three, to Receiving or to Answering, told likewise
+-- 02, T-02 and T-05
+abbrev pub isBegun : Place → Bool
+isBegun q = isCalling q || isCalling3 q || isReceiving q || isAnswering q
+
 abbrev pub beginsAt : Place → Place → Bool
-beginsAt p q = isStandBy p && (isCalling q || isReceiving q)
+beginsAt p q = isStandBy p && isBegun q
 
 abbrev pub begins : Station → Event → Bool
 begins s e = beginsAt (s .place) (next s e .place)

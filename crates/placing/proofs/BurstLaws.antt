@@ -1,6 +1,7 @@
 -- Bursts and calls.
 --     call-1, call-2, call-next     the call blocks of an identity that can be called are call bursts
---     block-no-call, asked-no-call, requests-no-call   what else a station sends is none
+--     block-no-call, asked-no-call, requests-no-call, single-no-call, told-no-call   what else a station sends is none, but for block 1 of a
+--                                   three-block call
 --     next-block                    the block that follows n of them is due as number n + 1
 --     call-says, hears-1, hears-2   which of the own call blocks a burst is
 -- Assumes nothing.
@@ -19,10 +20,17 @@ use Rattle.mode_a.specs.declared.Number.the-variants.{One, Two}
 use Rattle.mode_a.specs.declared.Words.{Words}
 use Rattle.mode_a.specs.declared.Mark.{Mark}
 use Rattle.mode_a.specs.declared.Identity.{Identity}
-use Rattle.mode_a.specs.Calls.{isIdentity, isCallable, callBlock1, callBlock2, nextBlock}
-use Rattle.mode_a.specs.Station.{asksFor}
+use Rattle.identity.specs.declared.Seven.{Seven}
+use Rattle.identity.specs.Table3.{isIdentity}
+use Rattle.identity.specs.Sums.{isCallable7}
+use Rattle.mode_a.specs.declared.Stage.{Stage}
+use Rattle.mode_a.specs.Identification.{identityBlock}
+use Rattle.mode_a.specs.Calls.{isCallable, callBlock1, callBlock2, nextBlock}
+use Rattle.mode_a.specs.Station.{single, asksFor}
 use Rattle.mode_a.specs.Heard.{mayHold, isBlock, isWords, callOf}
 use Rattle.mode_a.specs.Rows.{requests}
+use Rattle.runs.proofs.LetterLaws.{letters-of}
+use Rattle.runs.proofs.WordLaws.{same-words, words-same}
 use Rattle.placing.specs.Runs.{isCallBurst, blockNo}
 
 -- all four signals of table 3a
@@ -97,21 +105,20 @@ unfolding isCallBurst isIdentity
 requests-no-call Master = refl
 requests-no-call Slave = refl
 
+-- nor is a control signal, a check-sum or RQ alone, nor what identification sends
+pub single-no-call : (w : ℕ) → isCallBurst (single w) ≡ false
+unfolding isCallBurst isIdentity
+single-no-call w = and-false (isIdentity w)
+
+pub told-no-call : (y : Seven) (g : Stage) → isCallable7 y ≡ true → isCallBurst (identityBlock y g) ≡ false
+unfolding isCallBurst
+told-no-call y Stage.One t = (unfold isIdentity in and-false (isIdentity (y .0)))
+told-no-call y Stage.Two t = (unfold isIdentity in refl)
+told-no-call y Stage.Three t =
+    rw (identity-no-rq (y .5) (letters-of y t .sixth), identity-no-rq (y .6) (letters-of y t .seventh), and-false (isIdentity (y .5))) (and-false (isIdentity (y .4)))
+told-no-call y Stage.Four t = (unfold isIdentity in refl)
+
 -- which of the own call blocks
-same-words : (b w : Words) → isWords b w ≡ true → b ≡ w
-unfolding isWords
-same-words b w e = go (eqb (b .0) (w .0)) (eqb (b .1) (w .1)) (eqb (b .2) (w .2)) refl refl refl e
-  where
-    go : (x y z : Bool) → eqb (b .0) (w .0) ≡ x → eqb (b .1) (w .1) ≡ y → eqb (b .2) (w .2) ≡ z → x && (y && z) ≡ true → b ≡ w
-    go true true true p q r e = λ k. record { 0 = eqb-true (b .0) (w .0) p k; 1 = eqb-true (b .1) (w .1) q k; 2 = eqb-true (b .2) (w .2) r k }
-    go true true false p q r e = absurd (true≢false (sym e))
-    go true false z p q r e = absurd (true≢false (sym e))
-    go false y z p q r e = absurd (true≢false (sym e))
-
-words-same : (w : Words) → isWords w w ≡ true
-unfolding isWords
-words-same w = rw (eq-eqb (w .0) (w .0) refl, eq-eqb (w .1) (w .1) refl, eq-eqb (w .2) (w .2) refl)
-
 abbrev pub Says : Identity → Words → Mark → Type 0
 Says i b Mark.None = Unit {0}
 Says i b Mark.One = (isCallable i ≡ true) × (b ≡ callBlock1 i)

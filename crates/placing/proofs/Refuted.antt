@@ -16,13 +16,14 @@ use Rattle.signals.specs.Meaning.{cs1, cs2, cs3}
 use Rattle.signals.specs.Numbers.{firstNot}
 use Rattle.mode_a.specs.declared.Offer.{Offer}
 use Rattle.mode_a.specs.declared.Station.{Station}
-use Rattle.mode_a.specs.Calls.{isIdentity, isCallable, callBlock1, callBlock2}
+use Rattle.identity.specs.Table3.{isIdentity}
+use Rattle.identity.specs.Sums.{isCallable7}
+use Rattle.mode_a.specs.Calls.{isCallable, callBlock1, callBlock2}
 use Rattle.mode_a.specs.Station.{single, noIdentity, freshAt}
-use Rattle.mode_a.specs.Heard.{firstOf, isWords, callOf, heardOf}
+use Rattle.mode_a.specs.Heard.{firstOf, isWords, callOf, call3Of, heardOf}
 use Rattle.mode_a.specs.Step.{done, sound, stepping}
 use Rattle.runs.specs.Places.{isReceiving, isStandBy, isCalling}
-use Rattle.runs.specs.Runs.{Event, Run, start, _▷_, said, after, isTaken}
-use Rattle.placing.specs.Runs.{stepsIn, StaysAtStandBy}
+use Rattle.runs.specs.Runs.{Event, Run, start, _▷_, said, after, isTaken, stepsIn, StaysAtStandBy}
 use Rattle.placing.specs.Calling.{inTraffic}
 use Rattle.placing.proofs.CallExamples.{coast, set, hears, quiet, offers, times, waitsSo, stays-on, steps-on, still-untaken, block1, block2}
 
@@ -34,15 +35,15 @@ abbrev two : Event
 two = hears (single cs2)
 
 pub no-one-cs1 : ((run : Run) → isCalling (after set run .place) ≡ true → inTraffic (after set (run ▷ one) .place) ≡ true) → ⊥
-unfolding stepping sound done firstNot heardOf firstOf isWords callOf isCallable isIdentity
+unfolding stepping sound done firstNot heardOf firstOf isWords callOf call3Of isCallable isCallable7 isIdentity
 no-one-cs1 claim = false≢true (claim (start ▷ offers) refl)
 
 pub no-cs1-then-cs2 : ((run : Run) → isCalling (after set run .place) ≡ true → inTraffic (after set (run ▷ one ▷ two) .place) ≡ true) → ⊥
-unfolding stepping sound done firstNot heardOf firstOf isWords callOf isCallable isIdentity
+unfolding stepping sound done firstNot heardOf firstOf isWords callOf call3Of isCallable isCallable7 isIdentity
 no-cs1-then-cs2 claim = false≢true (claim (start ▷ offers) refl)
 
 pub no-cs1-silence-cs1 : ((run : Run) → isCalling (after set run .place) ≡ true → inTraffic (after set (run ▷ one ▷ quiet ▷ one) .place) ≡ true) → ⊥
-unfolding stepping sound done firstNot heardOf firstOf isWords callOf isCallable isIdentity
+unfolding stepping sound done firstNot heardOf firstOf isWords callOf call3Of isCallable isCallable7 isIdentity
 no-cs1-silence-cs1 claim = false≢true (claim (start ▷ offers) refl)
 
 -- the call is offered as CS1 is heard
@@ -50,20 +51,20 @@ abbrev oneOffers : Event
 oneOffers = record { burst = single cs1; offer = Offer.Call coast }
 
 pub no-cs1-before-the-call : ((run : Run) → isCalling (after set (run ▷ oneOffers) .place) ≡ true → inTraffic (after set (run ▷ oneOffers ▷ one) .place) ≡ true) → ⊥
-unfolding stepping sound done firstNot heardOf firstOf isWords callOf isCallable isIdentity
+unfolding stepping sound done firstNot heardOf firstOf isWords callOf call3Of isCallable isCallable7 isIdentity
 no-cs1-before-the-call claim = false≢true (claim start refl)
 
 pub no-cs3-ignored : ((run : Run) → isCalling (after set run .place) ≡ true → isCalling (after set (run ▷ hears (single cs3)) .place) ≡ true) → ⊥
-unfolding stepping sound done firstNot heardOf firstOf isWords callOf isCallable isIdentity
+unfolding stepping sound done firstNot heardOf firstOf isWords callOf call3Of isCallable isCallable7 isIdentity
 no-cs3-ignored claim = false≢true (claim (start ▷ offers) refl)
 
 -- at Stand-by
 pub no-block-twice : ((run : Run) → isStandBy (after set run .place) ≡ true → isReceiving (after set (run ▷ block1 ▷ block1) .place) ≡ true) → ⊥
-unfolding stepping sound done firstNot heardOf firstOf isWords callOf isCallable isIdentity
+unfolding stepping sound done firstNot heardOf firstOf isWords callOf call3Of isCallable isCallable7 isIdentity
 no-block-twice claim = false≢true (claim start refl)
 
 pub no-block-silence-block : ((run : Run) → isStandBy (after set run .place) ≡ true → isReceiving (after set (run ▷ block1 ▷ quiet ▷ block2) .place) ≡ true) → ⊥
-unfolding stepping sound done firstNot heardOf firstOf isWords callOf isCallable isIdentity
+unfolding stepping sound done firstNot heardOf firstOf isWords callOf call3Of isCallable isCallable7 isIdentity
 no-block-silence-block claim = false≢true (claim start refl)
 
 -- the call failed in the step before: 128 steps to wait, of which 127 are over
@@ -75,5 +76,5 @@ abbrev calledTwice : Station → Run
 calledTwice s = start ▷ hears (callBlock1 (s .own .four)) ▷ hears (callBlock2 (s .own .four))
 
 pub no-call-of-zeros : ((s : Station) → isStandBy (s .place) ≡ true → isReceiving (after s (calledTwice s) .place) ≡ true) → ⊥
-unfolding stepping sound done firstNot heardOf firstOf isWords callOf isCallable isIdentity
-no-call-of-zeros claim = false≢true (claim (freshAt (noIdentity .four)) refl)
+unfolding stepping sound done firstNot heardOf firstOf isWords callOf call3Of isCallable isCallable7 isIdentity
+no-call-of-zeros claim = false≢true (claim (freshAt noIdentity) refl)

@@ -1,18 +1,22 @@
 -- 02, T-02: Stand-by hears and places calls (001, 3.5.4, 3.5.5, 3.5.7).
 --     stands-exactly        a step from Stand-by answers a call, places one, or waits on
---     waits-128             after a call that failed none is placed in 128 steps, and then one is
+--     waits-128             after a call that failed no two-block call is placed in 128 steps, and then one is
 --     hears-call-exactly    a call is answered exactly after both own call blocks in two successive steps at Stand-by
 -- Assumes nothing.
 use mathlib.Core.Path.{_≡_, refl, ap, sym, subst, _∙_}
-use mathlib.Core.Bool.{Bool, true, false, true≢false, false≢true}
+use mathlib.Core.Bool.{Bool, true, false, _&&_, _||_, true≢false, false≢true}
 use mathlib.Core.Logic.{_⊎_, inl, inr}
 use mathlib.Core.Option.{Option, none, some}
 use Prim.Native.Nat.{ℕ, _-_}
 use native.Mathlib.Omega.{arith}
-use lib.Dec.{eqb}
+use lib.Dec.{eqb, leb}
 use borrow.Author.Tests.{eqb-true, eqb-false}
 use Rattle.laws.specs.Choice.{if_then_else_}
+use Rattle.signals.specs.Meaning.{cs4}
 use Rattle.signals.specs.Numbers.{Answer, answered, refused}
+use Rattle.identity.specs.declared.Seven.{Seven}
+use Rattle.mode_a.specs.declared.Role.the-variants.{Slave}
+use Rattle.mode_a.specs.Station.{single}
 use Rattle.mode_a.specs.declared.Words.{Words}
 use Rattle.mode_a.specs.declared.Mark.{Mark}
 use Rattle.mode_a.specs.declared.Identity.{Identity}
@@ -24,23 +28,24 @@ use Rattle.mode_a.specs.declared.Offer.{Offer}
 use Rattle.mode_a.specs.declared.Station.{Station}
 use Rattle.mode_a.specs.declared.Reply.{Reply}
 use Rattle.mode_a.specs.Calls.{isCallable, callBlock1, callBlock2}
-use Rattle.mode_a.specs.Heard.{callOf}
-use Rattle.mode_a.specs.Rows.{bothHeard}
-use Rattle.mode_a.specs.Step.{called, waitsOn, listens, stepping, stationAfter}
-use Rattle.runs.specs.Places.{isReceiving, isStandBy, isLost, isCalling}
-use Rattle.runs.specs.Runs.{Event, Run, start, _▷_, said, next, after, isTaken, isCall}
-use Rattle.runs.proofs.PlaceLaws.{one-number}
+use Rattle.mode_a.specs.Heard.{callOf, call3Of}
+use Rattle.mode_a.specs.Rows.{bothHeard, allHeard, heardThen}
+use Rattle.mode_a.specs.Step.{begun, called, called3, sends, unidentified, waitsOn, bars, listens, stepping, stationAfter}
+use Rattle.runs.specs.Places.{placeNo, isReceiving, isStandBy, isLost, isCalling, isCalling3, isAnswering, atStandBy, noneAnswered}
+use Rattle.runs.specs.Runs.{Event, Run, start, _▷_, said, next, after, isTaken, Step, stepOr, lastStep, oneStep, stepsIn, StaysAtStandBy}
 use Rattle.runs.proofs.PlaceLaws.{is-standby}
-use Rattle.runs.proofs.StepLaws.{answers, standby-answers, standby-listens, keeps, own-lasts}
-use Rattle.placing.specs.Runs.{oneStep, stepsIn, StaysAtStandBy, Step, stepOr, lastStep}
-use Rattle.placing.specs.StandBy.{AnswersCall, PlacesCall, OneOfThree, Stands, Waits, Successive, BothBlocks, NoneHeard, HearsCall, Enters}
+use Rattle.runs.proofs.StepLaws.{answers, standby-answers, standby-answers3, standby-listens, own-lasts}
+use Rattle.placing.specs.StandBy.{AnswersCall, PlacesCall, OneOfFour, Stands, Waits, Successive, BothBlocks, NoneHeard, HearsCall, Enters}
 use Rattle.placing.proofs.BurstLaws.{Says, call-says, hears-1, hears-2}
-use Rattle.placing.proofs.StepLaws.{atStandBy, Does, elsewhere, rests, waits, places, calls-on, does}
+use Rattle.placing.proofs.StepLaws.{isCall2, Does, elsewhere, rests, waits, places, calls-on, does}
 
 -- a step from Stand-by
 module _ (s : Station) (b : Words) (o : Offer) (r : Reply) (answer : stepping s b o ≡ answered r) (w : Waiting) (here : s .place ≡ StandBy w) where
   abbrev both : Bool
   both = bothHeard (w .heard) (callOf (s .own .four) b)
+
+  abbrev all : Bool
+  all = allHeard (w .heard3) (call3Of (s .own .seven) b)
 
   answered-call : both ≡ true → AnswersCall r
   answered-call t = rw (standby-answers s b o r (answers s b o r answer) w here t) (record { slave = refl; awaits-1 = refl; sends-cs1 = refl; prints-nothing = refl; takes-nothing = refl; nobody = refl; letters = (refl, refl, refl) })
@@ -51,41 +56,75 @@ module _ (s : Station) (b : Words) (o : Offer) (r : Reply) (answer : stepping s 
   placed : (i : Identity) → o ≡ Offer.Call i → w .wait ≡ 0 → Listened (called s i)
   placed i z n = (
     record {
-      one-of-three = OneOfThree.places i z n (record { master = refl; calls = refl; sends-block-1 = refl; prints-nothing = refl; takes-it = refl; nobody = refl; letters = (refl, refl, refl) });
+      one-of-four = OneOfFour.places i z n (record { master = refl; calls = refl; sends-block-1 = refl; prints-nothing = refl; takes-it = refl; nobody = refl; letters = (refl, refl, refl) });
       places-exactly = (λ x. ((i, z), refl, n), λ x. refl);
       never-lost = refl;
     },
     refl,
   )
 
-  stayed : (m : Mark) → ((i : Identity) → o ≡ Offer.Call i → w .wait ≡ 0 → ⊥) → Listened (waitsOn s (record { wait = w .wait; heard = m }))
-  stayed m x = (
+  abbrev kept : Waiting
+  kept = record { wait = w .wait; heard = callOf (s .own .four) b; heard3 = heardThen (w .heard3) (call3Of (s .own .seven) b) }
+
+  -- no two-block call is offered, or steps are left to wait
+  stayed : ((i : Identity) → o ≡ Offer.Call i → w .wait ≡ 0 → ⊥) → Listened (waitsOn s kept)
+  stayed x = (
     record {
-      one-of-three = OneOfThree.waits (record { stays = (_, refl, refl); is-silent = refl; prints-nothing = refl; takes-nothing = refl });
+      one-of-four = OneOfFour.waits (record { stays = (_, refl, refl); is-silent = refl; prints-nothing = refl; takes-nothing = refl });
       places-exactly = (λ y. absurd (false≢true y), λ y. absurd (x (y .0 .0) (y .0 .1) (y .2)));
       never-lost = refl;
     },
     refl,
   )
 
+  -- a three-block call is answered, or placed
+  answered-3 : Listened (sends (begun s Slave unidentified) (single cs4))
+  answered-3 = (
+    record {
+      one-of-four = OneOfFour.of-three-blocks refl refl;
+      places-exactly = (λ y. absurd (false≢true y), λ y. absurd (false≢true (y .1)));
+      never-lost = refl;
+    },
+    refl,
+  )
+
+  placed-3 : (i : Seven) → o ≡ Offer.Call3 i → Listened (called3 s i)
+  placed-3 i z = (
+    record {
+      one-of-four = OneOfFour.of-three-blocks refl refl;
+      places-exactly = (λ y. absurd (false≢true y), λ y. absurd (false≢true (sym (ap isCall2 z) ∙ ap isCall2 (y .0 .1))));
+      never-lost = refl;
+    },
+    refl,
+  )
+
   listened : both ≡ false → Listened r
-  listened t = rw (standby-listens s b o r (answers s b o r answer) w here t) (by-offer o refl)
+  listened t = go all refl
     where
-      other : (p : Offer) → o ≡ p → isCall p ≡ false → (i : Identity) → o ≡ Offer.Call i → w .wait ≡ 0 → ⊥
-      other p e x i z n = false≢true (sym x ∙ ap isCall (sym e ∙ z))
+      other : (p : Offer) → o ≡ p → isCall2 p ≡ false → (i : Identity) → o ≡ Offer.Call i → w .wait ≡ 0 → ⊥
+      other p e x i z n = false≢true (sym x ∙ ap isCall2 (sym e ∙ z))
 
-      by-offer : (p : Offer) → o ≡ p → Listened (listens s (record { wait = w .wait; heard = callOf (s .own .four) b }) p)
-      by-offer (Offer.Text x) e = stayed _ (other _ e refl)
-      by-offer Offer.Over e = stayed _ (other _ e refl)
-      by-offer Offer.End e = stayed _ (other _ e refl)
-      by-offer Offer.Nothing e = stayed _ (other _ e refl)
-      by-offer (Offer.Call i) e = go (eqb (w .wait) 0) refl
+      by-offer : (p : Offer) → o ≡ p → Listened (listens s kept p)
+      by-offer (Offer.Text x) e = stayed (other _ e refl)
+      by-offer Offer.Over e = stayed (other _ e refl)
+      by-offer Offer.End e = stayed (other _ e refl)
+      by-offer Offer.Nothing e = stayed (other _ e refl)
+      by-offer (Offer.Call i) e = tests (eqb (w .wait) 0) refl
         where
-          go : (t : Bool) → eqb (w .wait) 0 ≡ t → Listened (if t then called s i else waitsOn s (record { wait = w .wait; heard = callOf (s .own .four) b }))
-          go true n = placed i e (eqb-true (w .wait) 0 n)
-          go false n = stayed _ (λ j z. eqb-false (w .wait) 0 n)
+          tests : (t : Bool) → eqb (w .wait) 0 ≡ t → Listened (if t then called s i else waitsOn s kept)
+          tests true n = placed i e (eqb-true (w .wait) 0 n)
+          tests false n = stayed (λ j z. eqb-false (w .wait) 0 n)
+      by-offer (Offer.Call3 i) e = tests (leb 1 (w .wait) && bars (s .other) i)
+        where
+          tests : (t : Bool) → Listened (if t then waitsOn s kept else called3 s i)
+          tests true = stayed (other _ e refl)
+          tests false = placed-3 i e
 
-  -- a call is answered exactly where both are heard
+      go : (u : Bool) → all ≡ u → Listened r
+      go true u = rw (standby-answers3 s b o r (answers s b o r answer) w here t u) answered-3
+      go false u = rw (standby-listens s b o r (answers s b o r answer) w here t u) (by-offer o refl)
+
+  -- a two-block call is answered exactly where both are heard
   receiving-is : isReceiving (r .station .place) ≡ both
   receiving-is = go both refl
     where
@@ -100,36 +139,48 @@ module _ (s : Station) (b : Words) (o : Offer) (r : Reply) (answer : stepping s 
       go true t =
           let a = answered-call t in
           record {
-            one-of-three = OneOfThree.answers a;
-            places-exactly = (λ x. absurd (false≢true (sym (ap isCalling (a .awaits-1)) ∙ x)), λ x. absurd (true≢false (sym (ap isReceiving (a .awaits-1)) ∙ x .1)));
+            one-of-four = OneOfFour.answers a;
+            places-exactly = (λ x. absurd (false≢true (sym (ap isCalling (a .awaits-1)) ∙ x)), λ x. absurd (false≢true (sym (ap noneAnswered (a .awaits-1)) ∙ x .1)));
             never-lost = ap isLost (a .awaits-1);
           }
       go false t = listened t .0
 
--- no call is placed while steps are left to wait, and one is where none is left
+-- no two-block call is placed while steps are left to wait, and one is where none is left
 module _ (s : Station) (a : Event) (w : Waiting) (here : s .place ≡ StandBy w) where
-  places-none : (w .wait ≡ 0 → ⊥) → (isCalling (next s a .place) ≡ false) × (isTaken (said s a) ≡ false)
+  places-none : (w .wait ≡ 0 → ⊥) → (isCalling (next s a .place) ≡ false) × (isTaken (said s a) ≡ isCalling3 (next s a .place))
   places-none left = go (said s a) refl
     where
-      by-three : (r : Reply) → OneOfThree w (a .offer) r → (isCalling (r .station .place) ≡ false) × (r .taken ≡ false)
-      by-three r (OneOfThree.answers x) = (ap isCalling (x .awaits-1), x .takes-nothing)
-      by-three r (OneOfThree.places i z n x) = absurd (left n)
-      by-three r (OneOfThree.waits x) = (ap isCalling (x .stays .1), x .takes-nothing)
+      not-both : (p : Place) → isAnswering p || isCalling3 p ≡ true → isCalling p ≡ false
+      not-both p e = tests (isCalling p) refl
+        where
+          tests : (t : Bool) → isCalling p ≡ t → t ≡ false
+          tests true x = absurd (true≢false (sym e ∙ rw (eqb-true (placeNo p) 8 x)))
+          tests false x = refl
 
-      go : (x : Answer Reply) → said s a ≡ x → (isCalling (stationAfter s x .place) ≡ false) × (isTaken x ≡ false)
-      go (answered r) p = by-three r (stands-exactly s (a .burst) (a .offer) r p w here .one-of-three)
-      go (refused n v) p = (ap isCalling here, refl)
+      by-four : (r : Reply) → OneOfFour w (a .offer) r → (isCalling (r .station .place) ≡ false) × (r .taken ≡ isCalling3 (r .station .place))
+      by-four r (OneOfFour.answers x) = (ap isCalling (x .awaits-1), x .takes-nothing ∙ sym (ap isCalling3 (x .awaits-1)))
+      by-four r (OneOfFour.places i z n x) = absurd (left n)
+      by-four r (OneOfFour.of-three-blocks x y) = (not-both (r .station .place) x, y)
+      by-four r (OneOfFour.waits x) = (ap isCalling (x .stays .1), x .takes-nothing ∙ sym (ap isCalling3 (x .stays .1)))
 
-  places-one : w .wait ≡ 0 → (i : Identity) (r : Reply) → a .offer ≡ Offer.Call i → said s a ≡ answered r → isReceiving (r .station .place) ≡ false → PlacesCall i r
-  places-one none-left i r z p n = by-three (stands-exactly s (a .burst) (a .offer) r p w here .one-of-three)
+      go : (x : Answer Reply) → said s a ≡ x → (isCalling (stationAfter s x .place) ≡ false) × (isTaken x ≡ isCalling3 (stationAfter s x .place))
+      go (answered r) p = by-four r (stands-exactly s (a .burst) (a .offer) r p w here .one-of-four)
+      go (refused n v) p = (ap isCalling here, sym (ap isCalling3 here))
+
+  places-one : w .wait ≡ 0 → (i : Identity) (r : Reply) → a .offer ≡ Offer.Call i → said s a ≡ answered r → noneAnswered (r .station .place) ≡ true → PlacesCall i r
+  places-one none-left i r z p n = by-four (stands-exactly s (a .burst) (a .offer) r p w here .one-of-four)
     where
       calling : isCalling (r .station .place) ≡ true
       calling = stands-exactly s (a .burst) (a .offer) r p w here .places-exactly .1 ((i, z), n, none-left)
 
-      by-three : OneOfThree w (a .offer) r → PlacesCall i r
-      by-three (OneOfThree.answers x) = absurd (true≢false (sym calling ∙ ap isCalling (x .awaits-1)))
-      by-three (OneOfThree.places j y m x) = let u : j ≡ i = cc in subst (λ (k : Identity). PlacesCall k r) u x
-      by-three (OneOfThree.waits x) = absurd (true≢false (sym calling ∙ ap isCalling (x .stays .1)))
+      three-not : (p : Place) → isCalling p ≡ true → isAnswering p || isCalling3 p ≡ true → ⊥
+      three-not p x y = true≢false (sym y ∙ rw (eqb-true (placeNo p) 8 x))
+
+      by-four : OneOfFour w (a .offer) r → PlacesCall i r
+      by-four (OneOfFour.answers x) = absurd (true≢false (sym calling ∙ ap isCalling (x .awaits-1)))
+      by-four (OneOfFour.places j y m x) = let u : j ≡ i = cc in subst (λ (k : Identity). PlacesCall k r) u x
+      by-four (OneOfFour.of-three-blocks x y) = absurd (three-not (r .station .place) calling x)
+      by-four (OneOfFour.waits x) = absurd (true≢false (sym calling ∙ ap isCalling (x .stays .1)))
 
 -- the steps left to wait, and which call block was heard, at Stand-by
 abbrev waitIn : Place → ℕ
@@ -140,12 +191,12 @@ heardIn p = atStandBy (λ w. w .heard) Mark.None p
 
 -- "waits 128 cycles in stand-by"
 module _ (s : Station) (b : Words) (o : Offer) (r : Reply) where
-  -- a call that fails leaves 128 steps to wait
-  failed : Does s b o r → isCalling (s .place) ≡ true → isStandBy (r .station .place) ≡ true → waitIn (r .station .place) ≡ 128
+  -- a call that fails, of two blocks or of three, leaves 128 steps to wait
+  failed : Does s b o r → isCalling (s .place) || isCalling3 (s .place) ≡ true → isStandBy (r .station .place) ≡ true → waitIn (r .station .place) ≡ 128
   failed (elsewhere x y c t) k h = absurd (true≢false (sym h ∙ x))
   failed (rests x (p, q) c t) k h = ap waitIn p ∙ rw k
-  failed (waits w e q) k h = absurd (true≢false (sym k ∙ ap isCalling e))
-  failed (places w i e z y q) k h = absurd (true≢false (sym k ∙ ap isCalling e))
+  failed (waits w e q) k h = absurd (true≢false (sym k ∙ ap (λ (p : Place). isCalling p || isCalling3 p) e))
+  failed (places w i e z y q) k h = absurd (true≢false (sym k ∙ ap (λ (p : Place). isCalling p || isCalling3 p) e))
   failed (calls-on c e m q) k h = absurd (true≢false (sym h ∙ ap (λ (r : Reply). isStandBy (r .station .place)) q))
 
   -- and each step there one less
@@ -164,13 +215,13 @@ module _ (s : Station) (b : Words) (o : Offer) (r : Reply) where
   mark-step (places w i e z y q) h = absurd (true≢false (sym h ∙ ap (λ (r : Reply). isStandBy (r .station .place)) q))
   mark-step (calls-on c e m q) h = absurd (true≢false (sym h ∙ ap (λ (r : Reply). isStandBy (r .station .place)) q))
 
-module _ (s : Station) (e : Event) (calling : isCalling (s .place) ≡ true) (standby : isStandBy (next s e .place) ≡ true) where
+module _ (s : Station) (e : Event) (calling : isCalling (s .place) || isCalling3 (s .place) ≡ true) (standby : isStandBy (next s e .place) ≡ true) where
   begins : waitIn (next s e .place) ≡ 128
   begins = go (said s e) refl standby
     where
       go : (a : Answer Reply) → said s e ≡ a → isStandBy (stationAfter s a .place) ≡ true → waitIn (stationAfter s a .place) ≡ 128
       go (answered r) p h = failed s (e .burst) (e .offer) r (does s (e .burst) (e .offer) r p) calling h
-      go (refused n v) p h = absurd (false≢true (sym (one-number (s .place) 8 6 refl) ∙ rw (calling, h)))
+      go (refused n v) p h = absurd (true≢false (sym calling ∙ rw (eqb-true (placeNo (s .place)) 6 h)))
 
   record Left (run : Run) : Type 0 where
     there : isStandBy (after (next s e) run .place) ≡ true
@@ -242,7 +293,7 @@ module _ (from : Station) (none-heard : NoneHeard from) where
   mark-run start h = let w = is-standby (from .place) h in ap heardIn (w .1) ∙ none-heard (w .0) (w .1)
   mark-run (run ▷ e) h = go (mark-run run) (said (after from run) e) refl h
     where
-      go : (isStandBy (after from run .place) ≡ true → heardIn (after from run .place) ≡ lastMark (from .own .four) (lastStep from run)) → (a : Answer Reply) → said (after from run) e ≡ a → isStandBy (stationAfter (after from run) a .place) ≡ true → heardIn (stationAfter (after from run) a .place) ≡ lastMark (from .own .four) (stepOr a (record { place = after from run .place; burst = e .burst }) (lastStep from run))
+      go : (isStandBy (after from run .place) ≡ true → heardIn (after from run .place) ≡ lastMark (from .own .four) (lastStep from run)) → (a : Answer Reply) → said (after from run) e ≡ a → isStandBy (stationAfter (after from run) a .place) ≡ true → heardIn (stationAfter (after from run) a .place) ≡ lastMark (from .own .four) (stepOr a (some (record { place = after from run .place; burst = e .burst })) (lastStep from run))
       go k (answered r) p h =
           mark-step (after from run) (e .burst) (e .offer) r (does (after from run) (e .burst) (e .offer) r p) h ∙ ap (λ (x : Own). if isStandBy (after from run .place) then callOf (x .four) (e .burst) else Mark.None) (own-lasts from run)
       go k (refused n v) p h = k h

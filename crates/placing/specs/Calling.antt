@@ -4,7 +4,7 @@
 -- signal 3' during the phasing procedure, the calling station immediately changes to the 'stand-by' condition" (3.5.7).
 -- Assumes nothing.
 use mathlib.Core.Path.{_≡_}
-use mathlib.Core.Bool.{Bool, true, false, _||_}
+use mathlib.Core.Bool.{Bool, true, false, not, _||_}
 use mathlib.Core.Logic.{_↔_, _⊎_}
 use mathlib.Core.Option.{some}
 use Prim.Native.Nat.{_≤_}
@@ -13,6 +13,7 @@ use Rattle.signals.specs.Numbers.{answered}
 use Rattle.mode_a.specs.declared.Number.{Number}
 use Rattle.mode_a.specs.declared.Identity.{Identity}
 use Rattle.mode_a.specs.declared.Called.{Called}
+use Rattle.mode_a.specs.declared.Peer.the-variants.{Four}
 use Rattle.mode_a.specs.declared.Place.{Place}
 use Rattle.mode_a.specs.declared.Place.the-variants.{Calling}
 use Rattle.mode_a.specs.declared.Offer.{Offer}
@@ -20,10 +21,14 @@ use Rattle.mode_a.specs.declared.Station.{Station}
 use Rattle.mode_a.specs.declared.Reply.{Reply}
 use Rattle.mode_a.specs.Calls.{isCallable, callBlock1}
 use Rattle.mode_a.specs.Station.{silence, asksFor}
-use Rattle.mode_a.specs.Step.{sends, rested, reached, takes}
-use Rattle.runs.specs.Places.{isEnding, isSending, isStandBy, isLost, isCalling}
-use Rattle.runs.specs.Runs.{Event, Run, _▷_, said, after}
-use Rattle.placing.specs.Runs.{isCallBurst, callsInARow, blockNo, lastCalled, lastStep, WasHeard}
+use Rattle.mode_a.specs.Step.{sends, rested, knowing, takes}
+use Rattle.runs.specs.Places.{isEnding, isSending, isStandBy, isLost, isCalling, isCalling3, isIdentifying}
+use Rattle.runs.specs.Runs.{Event, Run, _▷_, said, after, lastStep, WasHeard}
+use Rattle.placing.specs.Runs.{isCallBurst, sendsCall, callsInARow, blockNo, lastCalled}
+
+-- not in the middle of a call: neither calling, with two blocks or three, nor in identification as the master
+abbrev pub notInACall : Place → Bool
+notInACall p = not (isCalling p || isCalling3 p || isIdentifying p)
 
 -- "sends call blocks 1 and 2 in turn for at most 128 cycles", of every run of a station that is not in the middle of a call at its start
 pub record InTurn (from : Station) (run : Run) : Type 0 where
@@ -39,7 +44,7 @@ pub record InTurn (from : Station) (run : Run) : Type 0 where
   -- after 128 the next step sends none, whatever it hears and is offered
   pub no-129th : (e : Event) (r : Reply) → said (after from run) e ≡ answered r → callsInARow from run ≡ 128 → isCallBurst (r .sent) ≡ false
   -- "in turn": each call burst is the block of the identity offered that is due
-  pub in-turn : (e : Event) (r : Reply) → said (after from run) e ≡ answered r → isCallBurst (r .sent) ≡ true →
+  pub in-turn : (e : Event) (r : Reply) → said (after from run) e ≡ answered r → sendsCall r ≡ true →
       (i : Identity) × (lastCalled from (run ▷ e) ≡ some i) × (r .sent ≡ blockNo i (callsInARow from (run ▷ e)))
   -- and a call that is taken begins a row, so that a row is of one identity
   pub begins : (e : Event) (r : Reply) (i : Identity) → said (after from run) e ≡ answered r → e .offer ≡ Offer.Call i → r .taken ≡ true →
@@ -68,7 +73,7 @@ pub record CallEnds (from : Station) (run : Run) (c : Called) (e : Event) (r : R
   -- "goes on to traffic on two successive identical CS1 or CS2"  3.5.6
   pub goes-on-exactly : inTraffic (r .station .place) ≡ true ↔ Twice from run e
   -- under the number heard, with the offer of that step; the identity called is at the other end
-  pub goes-on : (t : Twice from run e) → r ≡ takes (reached (after from run) (c .to)) (t .number) (e .offer)
+  pub goes-on : (t : Twice from run e) → r ≡ takes (knowing (after from run) (Four (c .to))) (t .number) (e .offer)
   -- "on CS3 waits 128 cycles in stand-by"  3.5.7, and so after 128 call bursts  3.5.4
   pub fails-exactly : isStandBy (r .station .place) ≡ true ↔ (Twice from run e → ⊥) × ((e .burst .0 ≡ cs3) ⊎ (callsInARow from run ≡ 128))
   -- silent

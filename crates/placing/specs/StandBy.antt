@@ -4,7 +4,7 @@
 -- 'call block 2', after which it sends 'control signal 1'" (3.5.5).
 -- Assumes nothing.
 use mathlib.Core.Path.{_≡_}
-use mathlib.Core.Bool.{true, false}
+use mathlib.Core.Bool.{Bool, true, false, not, _||_}
 use mathlib.Core.Logic.{_↔_, _⊎_}
 use mathlib.Core.Option.{Option}
 use Prim.Native.Nat.{_-_, _<_, _≤_}
@@ -14,19 +14,20 @@ use Rattle.mode_a.specs.declared.Role.the-variants.{Master, Slave}
 use Rattle.mode_a.specs.declared.Number.the-variants.{One}
 use Rattle.mode_a.specs.declared.Words.{Words}
 use Rattle.signals.specs.declared.Case.the-variants.{Letters}
-use Rattle.mode_a.specs.declared.Peer.the-variants.{Nobody}
+use Rattle.mode_a.specs.declared.Peer.the-variants.{Nobody, Barred}
 use Rattle.mode_a.specs.declared.Mark.{Mark}
 use Rattle.mode_a.specs.declared.Identity.{Identity}
 use Rattle.mode_a.specs.declared.Waiting.{Waiting}
+use Rattle.mode_a.specs.declared.Place.{Place}
 use Rattle.mode_a.specs.declared.Place.the-variants.{Receiving, StandBy, Calling}
 use Rattle.mode_a.specs.declared.Offer.{Offer}
 use Rattle.mode_a.specs.declared.Station.{Station}
 use Rattle.mode_a.specs.declared.Reply.{Reply}
 use Rattle.mode_a.specs.Calls.{isCallable, callBlock1, callBlock2}
 use Rattle.mode_a.specs.Station.{silence, asksFor, resting}
-use Rattle.runs.specs.Places.{isReceiving, isStandBy, isLost, isCalling}
-use Rattle.runs.specs.Runs.{Event, Run, said, next, after, isTaken}
-use Rattle.placing.specs.Runs.{stepsIn, Step, lastStep, WasHeard}
+use Rattle.runs.specs.Places.{isReceiving, isStandBy, isLost, isCalling, isCalling3, isAnswering, atCalling3, noneAnswered}
+use Rattle.mode_a.specs.Step.{leftAt, waitAt}
+use Rattle.runs.specs.Runs.{Event, Run, said, next, after, isTaken, Step, lastStep, WasHeard, stepsIn}
 
 -- a call is answered: "The slave answers CS1"
 pub record AnswersCall (r : Reply) : Type 0 where
@@ -55,30 +56,33 @@ pub record WaitsOn (w : Waiting) (r : Reply) : Type 0 where
   pub prints-nothing : r .printed ≡ silence
   pub takes-nothing : r .taken ≡ false
 
-pub data OneOfThree (w : Waiting) (o : Offer) (r : Reply) : Type 0 where
-  answers : AnswersCall r → OneOfThree w o r
-  places : (i : Identity) → o ≡ Offer.Call i → w .wait ≡ 0 → PlacesCall i r → OneOfThree w o r
-  waits : WaitsOn w r → OneOfThree w o r
+-- or it answers or places a three-block call (T-05), of which identification/specs/ThreeBlocks.antt tells
+pub data OneOfFour (w : Waiting) (o : Offer) (r : Reply) : Type 0 where
+  answers : AnswersCall r → OneOfFour w o r
+  places : (i : Identity) → o ≡ Offer.Call i → w .wait ≡ 0 → PlacesCall i r → OneOfFour w o r
+  of-three-blocks : isAnswering (r .station .place) || isCalling3 (r .station .place) ≡ true → r .taken ≡ isCalling3 (r .station .place) → OneOfFour w o r
+  waits : WaitsOn w r → OneOfFour w o r
 
 -- "it hears and places calls": a step from Stand-by
 pub record Stands (w : Waiting) (o : Offer) (r : Reply) : Type 0 where
-  pub one-of-three : OneOfThree w o r
-  -- a call is placed exactly where one is offered, none is answered, and no step is left to wait
-  pub places-exactly : isCalling (r .station .place) ≡ true ↔ ((i : Identity) × (o ≡ Offer.Call i)) × (isReceiving (r .station .place) ≡ false) × (w .wait ≡ 0)
+  pub one-of-four : OneOfFour w o r
+  -- a two-block call is placed exactly where one is offered, none is answered, and no step is left to wait
+  pub places-exactly : isCalling (r .station .place) ≡ true ↔ ((i : Identity) × (o ≡ Offer.Call i)) × (noneAnswered (r .station .place) ≡ true) × (w .wait ≡ 0)
   pub never-lost : isLost (r .station .place) ≡ false
 
--- a step that comes to Stand-by from another place: 128 steps to wait from Calling and none from elsewhere, none of its own call blocks
--- heard, and nobody at the other end
+-- a step that comes to Stand-by from another place: 128 steps to wait from Calling, with two blocks or three, and none from elsewhere, but
+-- 128 where an identity is barred (T-05: CS5 was answered by the end procedure); none of its own call blocks heard, and nobody at the
+-- other end: the identity of a three-block call that failed is barred
 pub record Enters (s : Station) (r : Reply) : Type 0 where
-  pub rests-so : r .station .place ≡ resting (if isCalling (s .place) then 128 else 0)
-  pub alone : r .station .other ≡ Nobody
+  pub rests-so : r .station .place ≡ resting (if isCalling (s .place) || isCalling3 (s .place) then 128 else waitAt (s .other) 0)
+  pub alone : r .station .other ≡ atCalling3 (λ c. Barred (c .to)) (leftAt (s .other)) (s .place)
 
 -- "waits 128 cycles in stand-by": a call fails at the event e, and after each event of the run the station is at Stand-by
 pub record Waits (s : Station) (e : Event) (run : Run) : Type 0 where
-  -- in the 128 steps after that one no event places a call, or takes any other offer
-  pub waits : stepsIn (next s e) run < 128 → (a : Event) → (isCalling (next (after (next s e) run) a .place) ≡ false) × (isTaken (said (after (next s e) run) a) ≡ false)
-  -- in the 129th, and ever after, a call that is offered is placed, unless one is answered
-  pub calls-again : 128 ≤ stepsIn (next s e) run → (a : Event) (i : Identity) (r : Reply) → a .offer ≡ Offer.Call i → said (after (next s e) run) a ≡ answered r → isReceiving (r .station .place) ≡ false → PlacesCall i r
+  -- in the 128 steps after that one no event places a two-block call, or takes any other offer but a three-block call, which it places
+  pub waits : stepsIn (next s e) run < 128 → (a : Event) → (isCalling (next (after (next s e) run) a .place) ≡ false) × (isTaken (said (after (next s e) run) a) ≡ isCalling3 (next (after (next s e) run) a .place))
+  -- in the 129th, and ever after, a two-block call that is offered is placed, unless one is answered
+  pub calls-again : 128 ≤ stepsIn (next s e) run → (a : Event) (i : Identity) (r : Reply) → a .offer ≡ Offer.Call i → said (after (next s e) run) a ≡ answered r → noneAnswered (r .station .place) ≡ true → PlacesCall i r
 
 -- the last step heard the one burst, at Stand-by, and now the other is heard
 abbrev pub Successive : Option Step → Words → Words → Words → Type 0

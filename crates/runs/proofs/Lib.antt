@@ -3,7 +3,11 @@
 --     RowLaws     what each row may do
 --     StepLaws    an answer is what the row did; what is so of each thing that a row may do; what a refusal leaves
 --     TakenLaws   where a row takes the offer, and what is reported of it
+--     LetterLaws  a station that calls with three blocks or identifies has letters of table 3a to send
+--     WordLaws    bursts that are the same in each word
 pub mod PlaceLaws
 pub mod RowLaws
 pub mod StepLaws
 pub mod TakenLaws
+pub mod LetterLaws
+pub mod WordLaws

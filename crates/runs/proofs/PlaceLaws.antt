@@ -6,7 +6,7 @@ use lib.Dec.{eqb}
 use borrow.Author.Tests.{eqb-true, eq-eqb}
 use Rattle.mode_a.specs.declared.Waiting.{Waiting}
 use Rattle.mode_a.specs.declared.Place.{Place}
-use Rattle.mode_a.specs.declared.Place.the-variants.{Sending, Turning, Opening, Ending, Receiving, Asking, StandBy, Lost, Calling}
+use Rattle.mode_a.specs.declared.Place.the-variants.{Sending, Turning, Opening, Ending, Receiving, Asking, StandBy, Lost, Calling, Calling3, Identifying, Answering}
 use Rattle.runs.specs.Places.{placeNo, isStandBy, changed}
 
 -- a place with another number is another place
@@ -24,6 +24,9 @@ is-standby Asking e = absurd (true≢false (sym e))
 is-standby (StandBy w) e = (w, refl)
 is-standby Lost e = absurd (true≢false (sym e))
 is-standby (Calling c) e = absurd (true≢false (sym e))
+is-standby (Calling3 c) e = absurd (true≢false (sym e))
+is-standby (Identifying i) e = absurd (true≢false (sym e))
+is-standby (Answering g) e = absurd (true≢false (sym e))
 
 -- a place has one number
 pub one-number : (p : Place) (i j : ℕ) → eqb i j ≡ false → eqb (placeNo p) i && eqb (placeNo p) j ≡ false

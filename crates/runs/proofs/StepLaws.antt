@@ -4,21 +4,23 @@
 --     held-block                      what is held at a sound place is a block
 --     placed, oneMore                 the same station at a place; with one more repetition
 --     by-repeat, by-take, by-accept   what is so of each answer that the row leaves open is so of the answer
+--     by-again, by-meet               the same in identification
 --     by-listen                       the same of a station at Stand-by that answers no call
---     own-kept, own-lasts             no step changes the own identity, and so no run
+--     own-kept, own-lasts             no step changes the own identities, and so no run
 --     lost-stays                      silent for good
---     standby-answers, standby-listens   what Stand-by does, by whether both call blocks came
+--     standby-answers, standby-answers3, standby-listens   what Stand-by does, by whether both call blocks came, or all three
 --     keeps                           a refusal leaves the station as it was
 -- Assumes nothing.
 use mathlib.Core.Path.{_≡_, refl, ap, sym, _∙_}
-use mathlib.Core.Bool.{Bool, true, false, not, _&&_, true≢false, and-eq-true-iff}
+use mathlib.Core.Bool.{Bool, true, false, not, _&&_, true≢false, and-true, and-eq-true-iff}
+use mathlib.Core.List.{List, _∷_, _++_}
 use Prim.Native.Nat.{ℕ, suc, _+_}
 use native.Mathlib.Omega.{arith}
-use lib.Dec.{eqb, leb, ltb}
+use lib.Dec.{eqb, leb, ltb, leb·suc-suc}
 use lib.ListN.{length}
-use borrow.Author.Tests.{eqb-true, not-false}
+use borrow.Author.Tests.{eqb-true, le-leb, not-false}
 use Rattle.laws.specs.Choice.{if_then_else_}
-use Rattle.signals.specs.Meaning.{meaningOf, trafficOf, alpha, cs3}
+use Rattle.signals.specs.Meaning.{meaningOf, trafficOf, alpha, cs3, cs4}
 use Rattle.signals.specs.Numbers.{Answer, answered, refused, firstNot}
 use Rattle.mode_a.specs.declared.Role.{Role}
 use Rattle.mode_a.specs.declared.Role.the-variants.{Master, Slave}
@@ -27,20 +29,25 @@ use Rattle.mode_a.specs.declared.Words.{Words}
 use Rattle.mode_a.specs.declared.Place.{Place}
 use Rattle.mode_a.specs.declared.Identity.{Identity}
 use Rattle.mode_a.specs.declared.Waiting.{Waiting}
+use Rattle.mode_a.specs.declared.Own.{Own}
+use Rattle.mode_a.specs.declared.Peer.the-variants.{Known}
 use Rattle.mode_a.specs.declared.Number.the-variants.{One}
 use Rattle.mode_a.specs.declared.Place.the-variants.{Receiving, Asking, StandBy, Lost}
 use Rattle.mode_a.specs.declared.Offer.{Offer}
 use Rattle.mode_a.specs.declared.Station.{Station}
 use Rattle.mode_a.specs.declared.Listening.{Listening}
 use Rattle.mode_a.specs.declared.Doing.{Doing}
-use Rattle.mode_a.specs.declared.Doing.the-variants.{Repeats, Goes, Takes, Receives, Opens, Accepts, Rests, Listens, Reaches}
+use Rattle.mode_a.specs.declared.Doing.the-variants.{Repeats, Goes, Takes, Receives, Opens, Accepts, Rests, Listens, Reaches, Answers3, Bars, Ends, Turns, Meets, Again}
 use Rattle.mode_a.specs.declared.Reply.{Reply}
 use Rattle.mode_a.specs.Station.{listOf, single, silence, ααα, other, asksFor}
-use Rattle.mode_a.specs.Calls.{isIdentity, signalsOf, isCallable}
-use Rattle.mode_a.specs.Heard.{mayHold, isBlock, isWords, callOf, heardOf}
+use Rattle.identity.specs.declared.Seven.{Seven}
+use Rattle.identity.specs.Table3.{isIdentity}
+use Rattle.identity.specs.Sums.{signalsOf7, isCallable7}
+use Rattle.mode_a.specs.Calls.{signalsOf, isCallable}
+use Rattle.mode_a.specs.Heard.{mayHold, isBlock, isWords, callOf, call3Of, heardOf}
 use Rattle.mode_a.specs.Over.{listenedAll}
-use Rattle.mode_a.specs.Rows.{rowOf, requests, bothHeard}
-use Rattle.mode_a.specs.Step.{standsAt, movedTo, begun, called, waitsOn, listens, reached, calledTo, sends, holds, takes, repeats, heardAt, isOver, acceptsBy, trafficIn, done, soundPlace, sound, offered, stepping, stationAfter}
+use Rattle.mode_a.specs.Rows.{rowOf, requests, bothHeard, allHeard, heardThen}
+use Rattle.mode_a.specs.Step.{standsAt, movedTo, rested, begun, called, called3, waitsOn, bars, listens, knowing, again, meets, unidentified, calledTo, sends, holds, takes, repeats, heardAt, isOver, acceptsBy, trafficIn, done, soundPlace, sound, offered, stepping, stationAfter}
 use Rattle.runs.specs.Runs.{Event, Run, start, _▷_, said, next, after, InOrder}
 
 -- what may stand in an offered text, and be held, is a block
@@ -57,7 +64,7 @@ text-test w = go (mayHold (w .0)) (mayHold (w .1)) (mayHold (w .2))
 pub held-block : (w : Words) → leb 3 (firstNot mayHold (listOf w)) ≡ isBlock w
 held-block w = text-test w .1
 
--- and what may stand in an offered call is an identity that can be called
+-- and what may stand in an offered call is an identity that can be called, for one of three blocks and the own one too
 call-test : (i : Identity) → ltb (firstNot isIdentity (signalsOf i)) 4 ≡ not (isCallable i)
 unfolding firstNot isCallable
 call-test i = go (isIdentity (i .0)) (isIdentity (i .1)) (isIdentity (i .2)) (isIdentity (i .3))
@@ -69,47 +76,81 @@ call-test i = go (isIdentity (i .0)) (isIdentity (i .1)) (isIdentity (i .2)) (is
     go true false c d = refl
     go false b c d = refl
 
-abbrev badCall : Offer → Bool
-badCall o = ltb (firstNot isIdentity (calledTo o)) (length (calledTo o))
+-- some signal of the list is outside table 3a
+abbrev outside : List ℕ → Bool
+outside l = ltb (firstNot isIdentity l) (length l)
+
+outside-more : (x : ℕ) (l : List ℕ) → outside (x ∷ l) ≡ (if isIdentity x then outside l else true)
+unfolding firstNot
+outside-more x l = go (isIdentity x)
+  where
+    go : (t : Bool) → ltb (if t then suc (firstNot isIdentity l) else 0) (suc (length l)) ≡ (if t then outside l else true)
+    go true = leb·suc-suc (suc (firstNot isIdentity l)) (length l)
+    go false = le-leb 1 (suc (length l)) (omega arith)
+
+call3-test : (i j : Seven) → outside (signalsOf7 i ++ signalsOf7 j) ≡ not (isCallable7 i && isCallable7 j)
+unfolding isCallable7 firstNot
+call3-test i j =
+    rw (outside-more (i .0), outside-more (i .1), outside-more (i .2), outside-more (i .3), outside-more (i .4), outside-more (i .5), outside-more (i .6), seven j) (both (isIdentity (i .0)) (isIdentity (i .1)) (isIdentity (i .2)) (isIdentity (i .3)) (isIdentity (i .4)) (isIdentity (i .5)) (isIdentity (i .6)) (isCallable7 j))
+  where
+    both : (a b c d e f g k : Bool) → (if a then (if b then (if c then (if d then (if e then (if f then (if g then not k else true) else true) else true) else true) else true) else true) else true) ≡ not ((a && (b && (c && (d && (e && (f && g)))))) && k)
+    both true true true true true true true k = refl
+    both true true true true true true false k = refl
+    both true true true true true false g k = refl
+    both true true true true false f g k = refl
+    both true true true false e f g k = refl
+    both true true false d e f g k = refl
+    both true false c d e f g k = refl
+    both false b c d e f g k = refl
+
+    seven : (i : Seven) → outside (signalsOf7 i) ≡ not (isCallable7 i)
+    seven i =
+        rw (outside-more (i .0), outside-more (i .1), outside-more (i .2), outside-more (i .3), outside-more (i .4), outside-more (i .5), outside-more (i .6)) (both (isIdentity (i .0)) (isIdentity (i .1)) (isIdentity (i .2)) (isIdentity (i .3)) (isIdentity (i .4)) (isIdentity (i .5)) (isIdentity (i .6)) true ∙ ap not (and-true (isCallable7 i)))
+
+abbrev badCall : Own → Offer → Bool
+badCall own o = outside (calledTo own o)
 
 abbrev badText : Offer → Bool
 badText o = ltb (firstNot mayHold (offered o)) (length (offered o))
 
-fine : (o : Offer) → badCall o ≡ false → badText o ≡ false → InOrder o
-fine (Offer.Text w) d e = not-false (isBlock w) (sym (text-test w .0) ∙ e)
-fine Offer.Over d e = tt
-fine Offer.End d e = tt
-fine Offer.Nothing d e = tt
-fine (Offer.Call i) d e = not-false (isCallable i) (sym (call-test i) ∙ d)
+fine : (own : Own) (o : Offer) → badCall own o ≡ false → badText o ≡ false → InOrder own o
+fine own (Offer.Text w) d e = not-false (isBlock w) (sym (text-test w .0) ∙ e)
+fine own Offer.Over d e = tt
+fine own Offer.End d e = tt
+fine own Offer.Nothing d e = tt
+fine own (Offer.Call i) d e = not-false (isCallable i) (sym (call-test i) ∙ d)
+fine own (Offer.Call3 i) d e =
+    and-eq-true-iff _ _ .0 (not-false (isCallable7 i && isCallable7 (own .seven)) (sym (call3-test i (own .seven)) ∙ d))
 
-not-refused : (o : Offer) → InOrder o → (badCall o ≡ false) × (badText o ≡ false)
+not-refused : (own : Own) (o : Offer) → InOrder own o → (badCall own o ≡ false) × (badText o ≡ false)
 unfolding firstNot
-not-refused (Offer.Text w) i = (refl, text-test w .0 ∙ ap not i)
-not-refused Offer.Over i = (refl, refl)
-not-refused Offer.End i = (refl, refl)
-not-refused Offer.Nothing i = (refl, refl)
-not-refused (Offer.Call x) i = (call-test x ∙ ap not i, refl)
+not-refused own (Offer.Text w) i = (refl, text-test w .0 ∙ ap not i)
+not-refused own Offer.Over i = (refl, refl)
+not-refused own Offer.End i = (refl, refl)
+not-refused own Offer.Nothing i = (refl, refl)
+not-refused own (Offer.Call x) i = (call-test x ∙ ap not i, refl)
+not-refused own (Offer.Call3 x) i = (call3-test x (own .seven) ∙ rw (i .0, i .1), refl)
 
 pub record Answers (s : Station) (b : Words) (o : Offer) (r : Reply) : Type 0 where
-  pub is-done : r ≡ done s b o (rowOf (s .role) (s .place) (heardOf (s .own) b))
+  pub is-done : r ≡ done s b o (rowOf (s .own) (s .role) (s .place) (heardOf (s .own) b))
   pub is-sound : soundPlace (s .place) ≡ true
-  pub is-fine : InOrder o
+  pub is-fine : InOrder (s .own) o
 
 pub answers : (s : Station) (b : Words) (o : Offer) (r : Reply) → stepping s b o ≡ answered r → Answers s b o r
 unfolding stepping sound
 answers s b o r e =
-    go (badCall o) (leb (s .count) 31) (soundPlace (s .place)) (badText o) refl refl refl e
+    go (badCall (s .own) o) (leb (s .count) 31) (soundPlace (s .place)) (badText o) refl refl refl e
   where
-    go : (d c p q : Bool) → badCall o ≡ d → soundPlace (s .place) ≡ p → badText o ≡ q → _≡_ {A = Answer Reply} (if d then refused 8 (firstNot isIdentity (calledTo o)) else if not (c && p) then refused 4 0 else if q then refused 3 (firstNot mayHold (offered o)) else answered (done s b o (rowOf (s .role) (s .place) (heardOf (s .own) b)))) (answered r) → Answers s b o r
+    go : (d c p q : Bool) → badCall (s .own) o ≡ d → soundPlace (s .place) ≡ p → badText o ≡ q → _≡_ {A = Answer Reply} (if d then refused 8 (firstNot isIdentity (calledTo (s .own) o)) else if not (c && p) then refused 4 0 else if q then refused 3 (firstNot mayHold (offered o)) else answered (done s b o (rowOf (s .own) (s .role) (s .place) (heardOf (s .own) b)))) (answered r) → Answers s b o r
     go true c p q h i j e = let z : _≡_ {A = ℕ} 0 1 = cc in absurd (omega arith)
     go false false p q h i j e = let z : _≡_ {A = ℕ} 0 1 = cc in absurd (omega arith)
     go false true false q h i j e = let z : _≡_ {A = ℕ} 0 1 = cc in absurd (omega arith)
     go false true true true h i j e = let z : _≡_ {A = ℕ} 0 1 = cc in absurd (omega arith)
-    go false true true false h i j e = record { is-done = cc; is-sound = i; is-fine = fine o h j }
+    go false true true false h i j e = record { is-done = cc; is-sound = i; is-fine = fine (s .own) o h j }
 
-pub is-answered : (s : Station) (b : Words) (o : Offer) → sound s ≡ true → InOrder o → stepping s b o ≡ answered (done s b o (rowOf (s .role) (s .place) (heardOf (s .own) b)))
+pub is-answered : (s : Station) (b : Words) (o : Offer) → sound s ≡ true → InOrder (s .own) o → stepping s b o ≡ answered (done s b o (rowOf (s .own) (s .role) (s .place) (heardOf (s .own) b)))
 unfolding stepping
-is-answered s b o t i = rw (not-refused o i .0, t, not-refused o i .1)
+is-answered s b o t i = rw (not-refused (s .own) o i .0, t, not-refused (s .own) o i .1)
 
 -- the same station at a place; every station is so at its own
 abbrev pub placed : Station → Place → Station
@@ -126,6 +167,19 @@ by-repeat P s w = go (leb 31 (s .count))
     go true lost more = lost refl
     go false lost more = more refl
 
+-- a row that repeats in identification: the 32nd in a row, or one more, standing so
+pub by-again : (P : Reply → Type 0) (s : Station) (p : Place) (w : Words) → (leb 31 (s .count) ≡ true → P (sends (rested s 0) silence)) → (leb 31 (s .count) ≡ false → P (sends (standsAt s p (s .count + 1) (s .case) (s .plus)) w)) → P (again s p w)
+by-again P s p w = go (leb 31 (s .count))
+  where
+    go : (t : Bool) → (t ≡ true → P (sends (rested s 0) silence)) → (t ≡ false → P (sends (standsAt s p (s .count + 1) (s .case) (s .plus)) w)) → P (if t then sends (rested s 0) silence else sends (standsAt s p (s .count + 1) (s .case) (s .plus)) w)
+    go true rest more = rest refl
+    go false rest more = more refl
+
+-- the end of identification at the slave: Asking where over is offered, or Receiving
+pub by-meet : (P : Reply → Type 0) (s : Station) (t : Bool) → P (meets s true) → P (meets s false) → P (meets s t)
+by-meet P s true asks awaits = asks
+by-meet P s false asks awaits = awaits
+
 -- a row that takes the offer: a block is held, or ααα is sent for the first time
 pub by-take : (P : Reply → Type 0) (s : Station) (n : Number) (o : Offer) → ((w : Words) (t : Bool) → P (holds s n w t)) → P (takes s n Offer.End) → P (takes s n o)
 by-take P s n (Offer.Text w) block end = block w true
@@ -133,15 +187,17 @@ by-take P s n Offer.Over block end = block _ true
 by-take P s n Offer.End block end = end
 by-take P s n Offer.Nothing block end = block _ true
 by-take P s n (Offer.Call i) block end = block _ false
+by-take P s n (Offer.Call3 i) block end = block _ false
 
 -- and where the offer is in order, it is a block
-pub by-take-block : (P : Reply → Type 0) (s : Station) (n : Number) (o : Offer) → InOrder o → ((w : Words) (t : Bool) → isBlock w ≡ true → P (holds s n w t)) → P (takes s n Offer.End) → P (takes s n o)
+pub by-take-block : (P : Reply → Type 0) (s : Station) (n : Number) (own : Own) (o : Offer) → InOrder own o → ((w : Words) (t : Bool) → isBlock w ≡ true → P (holds s n w t)) → P (takes s n Offer.End) → P (takes s n o)
 unfolding isBlock mayHold trafficOf meaningOf
-by-take-block P s n (Offer.Text w) i block end = block w true i
-by-take-block P s n Offer.Over i block end = block _ true refl
-by-take-block P s n Offer.End i block end = end
-by-take-block P s n Offer.Nothing i block end = block _ true refl
-by-take-block P s n (Offer.Call x) i block end = block _ false refl
+by-take-block P s n own (Offer.Text w) i block end = block w true i
+by-take-block P s n own Offer.Over i block end = block _ true refl
+by-take-block P s n own Offer.End i block end = end
+by-take-block P s n own Offer.Nothing i block end = block _ true refl
+by-take-block P s n own (Offer.Call x) i block end = block _ false refl
+by-take-block P s n own (Offer.Call3 x) i block end = block _ false refl
 
 -- a row that accepts: CS3 and Asking, or the other number
 pub by-accept : (P : Reply → Type 0) (s : Station) (n : Number) (b : Words) (t : Bool) (l : Listening) → ((u : Bool) → P (record { station = heardAt s Asking l; sent = single cs3; printed = trafficIn b; taken = u })) → P (record { station = heardAt s (Receiving (other n)) l; sent = asksFor (other n); printed = trafficIn b; taken = false }) → P (acceptsBy s n b t l)
@@ -153,18 +209,23 @@ by-accept P s n b false l asks awaits = go (l .over)
     go false = awaits
 
 -- a row of Stand-by that answers no call: the call that is offered is placed, or it waits on
-pub by-listen : (P : Reply → Type 0) (s : Station) (w : Waiting) (o : Offer) → ((i : Identity) → o ≡ Offer.Call i → w .wait ≡ 0 → P (called s i)) → P (waitsOn s w) → P (listens s w o)
-by-listen P s w (Offer.Text b) place wait = wait
-by-listen P s w Offer.Over place wait = wait
-by-listen P s w Offer.End place wait = wait
-by-listen P s w Offer.Nothing place wait = wait
-by-listen P s w (Offer.Call i) place wait = go (eqb (w .wait) 0) refl
+pub by-listen : (P : Reply → Type 0) (s : Station) (w : Waiting) (o : Offer) → ((i : Identity) → o ≡ Offer.Call i → w .wait ≡ 0 → P (called s i)) → ((i : Seven) → o ≡ Offer.Call3 i → leb 1 (w .wait) && bars (s .other) i ≡ false → P (called3 s i)) → P (waitsOn s w) → P (listens s w o)
+by-listen P s w (Offer.Text b) place place3 wait = wait
+by-listen P s w Offer.Over place place3 wait = wait
+by-listen P s w Offer.End place place3 wait = wait
+by-listen P s w Offer.Nothing place place3 wait = wait
+by-listen P s w (Offer.Call i) place place3 wait = go (eqb (w .wait) 0) refl
   where
     go : (t : Bool) → eqb (w .wait) 0 ≡ t → P (if t then called s i else waitsOn s w)
     go true e = place i refl (eqb-true (w .wait) 0 e)
     go false e = wait
+by-listen P s w (Offer.Call3 i) place place3 wait = go (leb 1 (w .wait) && bars (s .other) i) refl
+  where
+    go : (t : Bool) → leb 1 (w .wait) && bars (s .other) i ≡ t → P (if t then waitsOn s w else called3 s i)
+    go true e = wait
+    go false e = place3 i refl e
 
--- the own identity: no step changes it
+-- the own identities: no step changes them
 pub own-kept : (s : Station) (b : Words) (o : Offer) (d : Doing) → done s b o d .station .own ≡ s .own
 unfolding done
 own-kept s b o (Repeats w) = by-repeat (λ (r : Reply). r .station .own ≡ s .own) s w (λ t. refl) (λ t. refl)
@@ -175,8 +236,14 @@ own-kept s b o Opens = refl
 own-kept s b o (Accepts n) = by-accept (λ (r : Reply). r .station .own ≡ s .own) s n b (isOver o) (listenedAll (s .case) (s .plus) b) (λ u. refl) refl
 own-kept s b o (Rests n w) = refl
 own-kept s b o Doing.Answers = refl
-own-kept s b o (Listens w) = by-listen (λ (r : Reply). r .station .own ≡ s .own) s w o (λ i e z. refl) refl
-own-kept s b o (Reaches i n) = by-take (λ (r : Reply). r .station .own ≡ s .own) (reached s i) n o (λ w t. refl) refl
+own-kept s b o (Listens w) = by-listen (λ (r : Reply). r .station .own ≡ s .own) s w o (λ i e z. refl) (λ i e z. refl) refl
+own-kept s b o (Reaches p n) = by-take (λ (r : Reply). r .station .own ≡ s .own) (knowing s p) n o (λ w t. refl) refl
+own-kept s b o Answers3 = refl
+own-kept s b o (Bars i) = refl
+own-kept s b o (Ends i) = refl
+own-kept s b o (Turns i) = refl
+own-kept s b o (Meets i) = by-meet (λ (r : Reply). r .station .own ≡ s .own) (knowing s (Known i)) (isOver o) refl refl
+own-kept s b o (Again p w) = by-again (λ (r : Reply). r .station .own ≡ s .own) s p w (λ t. refl) (λ t. refl)
 
 -- "Lost: silent for good, no offer taken"
 module _ (s : Station) (b : Words) (o : Offer) (r : Reply) (a : Answers s b o r) where
@@ -184,15 +251,19 @@ module _ (s : Station) (b : Words) (o : Offer) (r : Reply) (a : Answers s b o r)
   unfolding done
   lost-stays e = a .is-done ∙ rw e
 
-  -- and Stand-by that hears the second of its own call blocks, or does not
+  -- and Stand-by that hears the last of its own call blocks, or does not
   module _ (w : Waiting) (e : s .place ≡ StandBy w) where
     pub standby-answers : bothHeard (w .heard) (callOf (s .own .four) b) ≡ true → r ≡ sends (begun s Slave (Receiving One)) (asksFor One)
     unfolding done heardOf
     standby-answers t = a .is-done ∙ rw (e, t)
 
-    pub standby-listens : bothHeard (w .heard) (callOf (s .own .four) b) ≡ false → r ≡ listens s (record { wait = w .wait; heard = callOf (s .own .four) b }) o
+    pub standby-answers3 : bothHeard (w .heard) (callOf (s .own .four) b) ≡ false → allHeard (w .heard3) (call3Of (s .own .seven) b) ≡ true → r ≡ sends (begun s Slave unidentified) (single cs4)
     unfolding done heardOf
-    standby-listens t = a .is-done ∙ rw (e, t)
+    standby-answers3 t u = a .is-done ∙ rw (e, t, u)
+
+    pub standby-listens : bothHeard (w .heard) (callOf (s .own .four) b) ≡ false → allHeard (w .heard3) (call3Of (s .own .seven) b) ≡ false → r ≡ listens s (record { wait = w .wait; heard = callOf (s .own .four) b; heard3 = heardThen (w .heard3) (call3Of (s .own .seven) b) }) o
+    unfolding done heardOf
+    standby-listens t u = a .is-done ∙ rw (e, t, u)
 
 -- what every answer keeps is kept
 pub keeps : (P : Station → Type 0) (s : Station) (e : Event) → ((r : Reply) → said s e ≡ answered r → P s → P (r .station)) → P s → P (next s e)
@@ -202,7 +273,7 @@ keeps P s e step p = go (said s e) refl
     go (answered r) i = step r i p
     go (refused n v) i = p
 
--- the own identity is that of the start, in every run
+-- the own identities are those of the start, in every run
 pub own-lasts : (s : Station) (run : Run) → after s run .own ≡ s .own
 own-lasts s start = refl
 own-lasts s (run ▷ e) =

@@ -2,29 +2,34 @@
 --     takes-by-row        the test of a place and a first word is that of the row
 --     taken-as-reported   of every offer but a call, a block is taken exactly where the answer says so and the station is at Sending
 -- Assumes nothing.
-use mathlib.Core.Path.{_≡_, refl, sym}
+use mathlib.Core.Path.{_≡_, refl, sym, _∙_}
 use mathlib.Core.Bool.{Bool, true, false, not, _&&_, and-false, true≢false}
+use Prim.Native.Nat.{ℕ}
 use lib.Dec.{leb}
 use Rattle.laws.specs.Choice.{if_then_else_}
 use Rattle.mode_a.specs.declared.Role.{Role}
 use Rattle.mode_a.specs.declared.Number.{Number}
+use Rattle.mode_a.specs.declared.Number.the-variants.{One, Two}
+use Rattle.mode_a.specs.declared.Stage.{Stage}
+use Rattle.mode_a.specs.declared.Own.{Own}
+use Rattle.mode_a.specs.declared.Peer.the-variants.{Four, Known}
 use Rattle.mode_a.specs.declared.Words.{Words}
 use Rattle.mode_a.specs.declared.Place.{Place}
-use Rattle.mode_a.specs.declared.Place.the-variants.{Sending, Turning, Opening, Ending, Receiving, Asking, StandBy, Lost, Calling}
+use Rattle.mode_a.specs.declared.Place.the-variants.{Sending, Turning, Opening, Ending, Receiving, Asking, StandBy, Lost, Calling, Calling3, Identifying, Answering}
 use Rattle.mode_a.specs.declared.Offer.{Offer}
 use Rattle.mode_a.specs.declared.Station.{Station}
 use Rattle.mode_a.specs.declared.Doing.{Doing}
-use Rattle.mode_a.specs.declared.Doing.the-variants.{Repeats, Goes, Takes, Receives, Opens, Accepts, Rests, Answers, Listens, Reaches}
+use Rattle.mode_a.specs.declared.Doing.the-variants.{Repeats, Goes, Takes, Receives, Opens, Accepts, Rests, Answers, Listens, Reaches, Answers3, Bars, Ends, Turns, Meets, Again}
 use Rattle.mode_a.specs.declared.Reply.{Reply}
 use Rattle.mode_a.specs.Station.{same, marks, markOf, other}
 use Rattle.mode_a.specs.Heard.{First, Cs, Cs3, Rq, Else, Heard, firstOf, heardOf}
 use Rattle.mode_a.specs.Over.{listenedAll}
-use Rattle.mode_a.specs.Rows.{rowOf, callsOn}
-use Rattle.mode_a.specs.Step.{takes, reached, isOver, done}
+use Rattle.mode_a.specs.Rows.{rowOf, callsOn, comparing, finishing, atStage, isLast}
+use Rattle.mode_a.specs.Step.{takes, knowing, isOver, done}
 use Rattle.runs.specs.Places.{isSending}
-use Rattle.runs.specs.Runs.{isCall, isTaking, taking}
-use Rattle.runs.proofs.RowLaws.{by-turning, by-ending, by-receiving, by-asking, by-standing}
-use Rattle.runs.proofs.StepLaws.{Answers as Answered, by-repeat, by-accept, by-listen}
+use Rattle.runs.specs.Runs.{isCall, isTaking, ofCs, taking}
+use Rattle.runs.proofs.RowLaws.{by-turning, by-ending, by-receiving, by-asking, by-standing, by-calling3, by-comparing, by-answering}
+use Rattle.runs.proofs.StepLaws.{Answers as Answered, by-repeat, by-again, by-meet, by-accept, by-listen}
 
 Is : Bool → Doing → Type 0
 Is t d = t ≡ isTaking d
@@ -33,43 +38,72 @@ neither-takes : (t : Bool) (d e : Doing) → isTaking d ≡ false → isTaking e
 neither-takes true d e p q = sym p
 neither-takes false d e p q = sym q
 
-pub takes-by-row : (r : Role) (p : Place) (h : Heard) → taking p (h .first) ≡ isTaking (rowOf r p h)
+pub takes-by-row : (own : Own) (r : Role) (p : Place) (h : Heard) → taking p (h .first) ≡ isTaking (rowOf own r p h)
 unfolding Is
-takes-by-row r (Sending x) h = go (h .first)
+takes-by-row own r (Sending x) h = go (h .first)
   where
     by-number : (t : Bool) (d e : Doing) → isTaking d ≡ false → isTaking e ≡ true → not t ≡ isTaking (if t then d else e)
     by-number true d e p q = sym p
     by-number false d e p q = sym q
 
-    go : (f : First) → taking (Sending x) f ≡ isTaking (rowOf r (Sending x) (record { first = f; block = h .block; RQs = h .RQs; alphas = h .alphas; turned = h .turned; call = h .call }))
+    go : (f : First) → taking (Sending x) f ≡ isTaking (rowOf own r (Sending x) (record { first = f; block = h .block; RQs = h .RQs; alphas = h .alphas; turned = h .turned; call = h .call; call3 = h .call3; told = h .told }))
     go (Cs n) = by-number (same n (x .number)) (Repeats (x .block)) (Takes (other (x .number))) refl refl
     go Cs3 = refl
     go Rq = refl
-    go Else = refl
-takes-by-row r (Turning n) h = by-turning (Is false) r n h refl refl refl
-takes-by-row r Opening h = go (h .first)
+    go (Else y) = refl
+takes-by-row own r (Turning n) h = by-turning (Is false) r n h refl refl refl
+takes-by-row own r Opening h = go (h .first)
   where
-    go : (f : First) → taking Opening f ≡ isTaking (rowOf r Opening (record { first = f; block = h .block; RQs = h .RQs; alphas = h .alphas; turned = h .turned; call = h .call }))
+    go : (f : First) → taking Opening f ≡ isTaking (rowOf own r Opening (record { first = f; block = h .block; RQs = h .RQs; alphas = h .alphas; turned = h .turned; call = h .call; call3 = h .call3; told = h .told }))
     go (Cs n) = refl
     go Cs3 = refl
     go Rq = refl
-    go Else = refl
-takes-by-row r (Ending e) h = by-ending (Is false) e (h .first) refl (λ l. refl)
-takes-by-row r (Receiving n) h = by-receiving (Is false) n h (λ c. refl) (λ c. refl) (λ c. refl)
-takes-by-row r Asking h = by-asking (Is false) h refl refl
-takes-by-row r (StandBy w) h = by-standing (Is false) w (h .call) (λ c. refl) (λ c. refl)
-takes-by-row r Lost h = refl
-takes-by-row r (Calling c) h = go (h .first)
+    go (Else y) = refl
+takes-by-row own r (Ending e) h = by-ending (Is false) e (h .first) refl (λ l. refl)
+takes-by-row own r (Receiving n) h = by-receiving (Is false) n h (λ c. refl) (λ c. refl) (λ c. refl)
+takes-by-row own r Asking h = by-asking (Is false) h refl refl
+takes-by-row own r (StandBy w) h = by-standing (Is false) w (h .call) (h .call3) (λ c. refl) (λ c d. refl) (λ c d. refl)
+takes-by-row own r Lost h = refl
+takes-by-row own r (Calling c) h = go (h .first)
   where
-    by-mark : (t : Bool) (n : Number) (e : Doing) → isTaking e ≡ false → t ≡ isTaking (if t then Reaches (c .to) n else e)
+    by-mark : (t : Bool) (n : Number) (e : Doing) → isTaking e ≡ false → t ≡ isTaking (if t then Reaches (Four (c .to)) n else e)
     by-mark true n e p = refl
     by-mark false n e p = sym p
 
-    go : (f : First) → taking (Calling c) f ≡ isTaking (rowOf r (Calling c) (record { first = f; block = h .block; RQs = h .RQs; alphas = h .alphas; turned = h .turned; call = h .call }))
+    go : (f : First) → taking (Calling c) f ≡ isTaking (rowOf own r (Calling c) (record { first = f; block = h .block; RQs = h .RQs; alphas = h .alphas; turned = h .turned; call = h .call; call3 = h .call3; told = h .told }))
     go (Cs n) = by-mark (marks (c .last) n) n (callsOn c (markOf n)) (sym (neither-takes (leb 128 (c .sent)) _ _ refl refl))
     go Cs3 = refl
     go Rq = neither-takes (leb 128 (c .sent)) _ _ refl refl
-    go Else = neither-takes (leb 128 (c .sent)) _ _ refl refl
+    go (Else y) = neither-takes (leb 128 (c .sent)) _ _ refl refl
+takes-by-row own r (Calling3 c) h = by-calling3 (Is false) (own .seven) c (h .first) (λ e. refl) (λ e. refl) refl (λ e. refl)
+takes-by-row own r (Identifying i) h = go (i .stage) (h .first)
+  where
+    never : (n : Number) → same n One && false ≡ false
+    never n = and-false (same n One)
+
+    by-sum : (e : ℕ) (t : Stage) (f : First) → false ≡ isTaking (comparing (own .seven) i e t f)
+    by-sum e t f = by-comparing (Is false) (own .seven) i e t f (λ l. refl) (λ l. refl) (λ w l m n k. refl) (λ w l m n. refl) (λ l m. refl)
+
+    none : (f : First) → ofCs (λ n. same n One && false) f ≡ false
+    none (Cs n) = never n
+    none Cs3 = refl
+    none Rq = refl
+    none (Else x) = refl
+
+    last : (f : First) → ofCs (λ n. same n One && true) f ≡ isTaking (finishing (own .seven) i f)
+    last (Cs One) = refl
+    last (Cs Two) = refl
+    last Cs3 = refl
+    last Rq = refl
+    last (Else x) = refl
+
+    go : (t : Stage) (f : First) → ofCs (λ n. same n One && isLast t) f ≡ isTaking (atStage (own .seven) i f t)
+    go Stage.One f = none f ∙ by-sum _ _ f
+    go Stage.Two f = none f ∙ by-sum _ _ f
+    go Stage.Three f = none f ∙ by-sum _ _ f
+    go Stage.Four f = last f
+takes-by-row own r (Answering g) h =
+    by-answering (Is false) (own .seven) g h refl (λ l. refl) (λ l x w. refl) (λ x w. refl)
 
 -- what is reported: at Sending afterwards, exactly that a row took
 Told : Bool → Reply → Type 0
@@ -82,6 +116,7 @@ by-offer s n Offer.Over c = refl
 by-offer s n Offer.End c = refl
 by-offer s n Offer.Nothing c = refl
 by-offer s n (Offer.Call i) c = absurd (true≢false c)
+by-offer s n (Offer.Call3 i) c = absurd (true≢false c)
 
 by-doing : (s : Station) (b : Words) (o : Offer) (d : Doing) → isCall o ≡ false → Told (isTaking d) (done s b o d)
 unfolding Told done
@@ -93,9 +128,15 @@ by-doing s b o Opens c = refl
 by-doing s b o (Accepts n) c = by-accept (Told false) s n b (isOver o) (listenedAll (s .case) (s .plus) b) (λ u. sym (and-false u)) refl
 by-doing s b o (Rests n w) c = refl
 by-doing s b o Answers c = refl
-by-doing s b o (Listens w) c = by-listen (Told false) s w o (λ i e z. refl) refl
-by-doing s b o (Reaches i n) c = by-offer (reached s i) n o c
+by-doing s b o (Listens w) c = by-listen (Told false) s w o (λ i e z. refl) (λ i e z. refl) refl
+by-doing s b o (Reaches p n) c = by-offer (knowing s p) n o c
+by-doing s b o Answers3 c = refl
+by-doing s b o (Bars i) c = refl
+by-doing s b o (Ends i) c = refl
+by-doing s b o (Turns i) c = refl
+by-doing s b o (Meets i) c = by-meet (Told false) (knowing s (Known i)) (isOver o) refl refl
+by-doing s b o (Again p w) c = by-again (Told false) s p w (λ e. refl) (λ e. refl)
 
 pub taken-as-reported : (s : Station) (b : Words) (o : Offer) (r : Reply) → Answered s b o r → isCall o ≡ false → (taking (s .place) (firstOf (b .0)) && isSending (r .station .place)) ≡ (r .taken && isSending (r .station .place))
 unfolding Told heardOf
-taken-as-reported s b o r a c = rw (a .is-done, takes-by-row (s .role) (s .place) (heardOf (s .own) b)) (by-doing s b o (rowOf (s .role) (s .place) (heardOf (s .own) b)) c)
+taken-as-reported s b o r a c = rw (a .is-done, takes-by-row (s .own) (s .role) (s .place) (heardOf (s .own) b)) (by-doing s b o (rowOf (s .own) (s .role) (s .place) (heardOf (s .own) b)) c)
