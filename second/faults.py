@@ -321,8 +321,8 @@ fault("the count is kept after other steps", "steps, hear", "station",
 fault("Ending counts too", "steps", "station",
       "COUNTING = (SENDING, TURNING,", "COUNTING = (SENDING, ENDING, TURNING,")
 fault("Asking has no time-out", "steps, hear", "station",
-      "COUNTING = (SENDING, TURNING, OPENING, RECEIVING, ASKING)",
-      "COUNTING = (SENDING, TURNING, OPENING, RECEIVING)")
+      "COUNTING = (SENDING, TURNING, OPENING, RECEIVING, ASKING, ",
+      "COUNTING = (SENDING, TURNING, OPENING, RECEIVING, ")
 
 # --- The station: rows ---
 
@@ -334,8 +334,8 @@ fault("Sending asked for its own number sends RQ", "steps, hear", "station",
       "return Row(Answer(station, station.held, (), False), False)",
       "return Row(Answer(station, THREE_RQ, (), False), False)")
 fault("nothing does not count as taken", "steps", "station",
-      "                  offer.kind != \"call\")",
-      "                  offer.kind not in (\"call\", \"nothing\"))")
+      "                  offer.kind not in CALLS)",
+      "                  offer.kind not in CALLS + (\"nothing\",))")
 fault("nothing sends the block of an over", "steps", "station",
       "        block = BETAS", "        block = OVER")
 fault("CS3 at Sending takes the offer", "steps", "station",
@@ -393,16 +393,19 @@ fault("an over offered at Receiving is not taken", "steps", "station",
 fault("any offer is taken where an over is heard", "steps", "station",
       "                              offer.kind == \"over\"), True)",
       "                              True), True)")
+# At Receiving.
+HEARS_END = "    if burst == ALPHAS:\n        # \"ask for the other number"
+
 fault("an over offered is taken at a bad block", "steps", "station",
-      "    if burst == ALPHAS:\n",
+      HEARS_END,
       "    if offer.kind == \"over\" and burst != ALPHAS:\n"
       "        return Row(Answer(at(station, ASKING), single(CS3), (), True), True)\n"
-      "    if burst == ALPHAS:\n")
+      + HEARS_END)
 fault("alphas at Receiving: asks for its own number", "steps, hear", "station",
       "Answer(at(station, STANDBY), single(CONTROL[next_number]),",
       "Answer(at(station, STANDBY), single(CONTROL[awaited]),")
 fault("alphas are heard by the first word", "steps, hear", "station",
-      "    if burst == ALPHAS:", "    if burst[0] == ALPHA:")
+      HEARS_END, HEARS_END.replace("burst == ALPHAS", "burst[0] == ALPHA"))
 fault("beta alpha beta is heard by two words", "steps, hear", "station",
       "    if burst == TURN:", "    if burst[:2] == TURN[:2]:")
 fault("a block heard again is told by its content", "steps, hear", "station",
@@ -488,8 +491,7 @@ fault("standing by refuses 3 for 8", "calls I", "station",
       "        return Refused(3, index)")
 fault("station: refusal 8 gone", "steps", "station", REFUSES_8, "")
 fault("station: refusal 8 behind 4", "steps", "station",
-      REFUSES_8 + "    # \"Order: ... mode A step 4, 3\"\n" + COUNT_JUDGED,
-      COUNT_JUDGED + REFUSES_8)
+      REFUSES_8, "", (COUNT_JUDGED, COUNT_JUDGED + REFUSES_8))
 fault("station: refusal 8 behind 4 of the held words", "steps", "station",
       REFUSES_8, "    if station.place != SENDING or all(\n"
       "            may_stand_in_block(word) for word in station.held):\n"
@@ -521,7 +523,8 @@ fault("station: a wait over 128 is refused 4", "steps", "station",
       "station.cycles > 128:\n        return Refused(4, 0)\n")
 
 fault("call block 1 is that of two signals and RQ", "steps", "station",
-      "return (identity[0], RQ, identity[1])", "return (identity[0], identity[1], RQ)")
+      "        return (identity[0], RQ, identity[1])\n    return (",
+      "        return (identity[0], identity[1], RQ)\n    return (")
 fault("call block 2 is that of a three-block call", "steps", "station",
       "return (identity[2], identity[3], RQ)", "return (RQ, identity[2], identity[3])")
 fault("call block 2 has its signals changed round", "steps", "station",
@@ -562,8 +565,8 @@ fault("a call block is heard with its signals in any order", "steps", "station",
 
 ANSWERS_CALL = "begin_call(at(station, RECEIVING, 1)._replace(master=False))"
 ANSWERED = "return Row(Answer(answering, single(CS1), (), False), False)"
-SILENT_THERE = """    return Row(Answer(station._replace(cycles=left, last=heard), SILENCE, (),
-                      False), False)
+SILENT_THERE = """    return Row(Answer(station._replace(cycles=left, last=heard, blocks=blocks),
+                      SILENCE, (), False), False)
 """
 PLACES_CALL = "    if offer.kind == \"call\" and station.cycles == 0:\n"
 BEGUN = "return station._replace(case=\"letters\", plus=False, other_end=None)"
@@ -613,8 +616,10 @@ fault("a call placed is not reported as taken", "steps", "station",
 fault("a call placed: block 2 goes out first", "steps", "station",
       "call_block(identity, 1), (), True)", "call_block(identity, 2), (), True)")
 fault("a call placed: the role is not changed", "steps", "station",
-      "                                 ._replace(master=True))",
-      "                                 )")
+      "                                 ._replace(master=True))\n"
+      "        return Row(Answer(calling_now, call_block(",
+      "                                 )\n"
+      "        return Row(Answer(calling_now, call_block(")
 fault("a call placed: the first burst is not counted", "steps", "station",
       "at(station, CALLING, cycles=1, called=identity)",
       "at(station, CALLING, cycles=0, called=identity)")
@@ -652,24 +657,27 @@ fault("Stand-by that stays sets nobody at the other end", "steps", "station",
 fault("Stand-by that stays sets letters case", "steps", "station",
       SILENT_THERE, SILENT_THERE.replace("last=heard",
                                          "last=heard, case=\"letters\""))
+# Of `at`: who is at the other end.
+FORGETS = "        else:\n            other_end = None\n"
+STILL_THERE = "    other_end = station.other_end\n    if place == STANDBY:\n"
+
 fault("entering Stand-by: who was at the other end stays", "steps", "station",
-      "other_end = None if place == STANDBY else station.other_end",
-      "other_end = station.other_end")
+      FORGETS, "")
 fault("becoming Lost: nobody is at the other end", "steps", "station",
-      "other_end = None if place == STANDBY else station.other_end",
-      "other_end = None if place in (STANDBY, LOST) else station.other_end")
+      STILL_THERE, STILL_THERE.replace(
+          "station.other_end", "None if place == LOST else station.other_end"))
 fault("a turn: nobody is at the other end", "steps", "station",
-      "other_end = None if place == STANDBY else station.other_end",
-      "other_end = None if place in (STANDBY, TURNING) else station.other_end")
+      STILL_THERE, STILL_THERE.replace(
+          "station.other_end", "None if place == TURNING else station.other_end"))
 fault("every way into Stand-by has a wait", "steps", "station",
-      "    other_end = None if place == STANDBY",
-      "    if place == STANDBY:\n        cycles = CYCLES_TO_WAIT\n"
-      "    other_end = None if place == STANDBY")
+      STILL_THERE, STILL_THERE + "        cycles = CYCLES_TO_WAIT\n")
 fault("Lost hears and places calls", "steps", "station",
       "    LOST: lost,\n", "    LOST: standby,\n")
 
 HEARS_TWO = "    if heard != 0 and station.last == heard:\n"
-GIVES_UP = "    if first == CS3 or station.cycles >= MOST_CALL_BURSTS:\n"
+# With what stands behind it, for Calling with three blocks gives up alike.
+GIVES_UP = ("    if first == CS3 or station.cycles >= MOST_CALL_BURSTS:\n"
+            "        # \"on CS3 waits")
 GOES_ON = "    again = at(station, CALLING, cycles=sent, last=heard, called=station.called)\n"
 
 fault("one control signal completes a call", "steps", "station",
@@ -701,18 +709,18 @@ fault("a call completed leads to Opening", "steps", "station",
       "return Row(take(reached, offer, heard), False)",
       "return Row(Answer(at(reached, OPENING), request(station), (), False), False)")
 fault("CS3 at Calling is any other word", "steps", "station",
-      GIVES_UP, "    if station.cycles >= MOST_CALL_BURSTS:\n")
+      GIVES_UP, GIVES_UP.replace("first == CS3 or ", ""))
 fault("CS3 at Calling twice is wanted", "steps", "station",
-      GIVES_UP, "    if first == CS3 and station.last == 0 or (\n"
-      "            station.cycles >= MOST_CALL_BURSTS):\n")
+      GIVES_UP, GIVES_UP.replace("first == CS3 or",
+                                 "first == CS3 and station.last == 0 or"))
 fault("127 call bursts", "steps", "station",
       "MOST_CALL_BURSTS = 128", "MOST_CALL_BURSTS = 127")
 fault("129 call bursts", "steps", "station",
       "MOST_CALL_BURSTS = 128", "MOST_CALL_BURSTS = 129")
 fault("calls without end", "steps", "station",
-      GIVES_UP, "    if first == CS3:\n")
+      GIVES_UP, GIVES_UP.replace(" or station.cycles >= MOST_CALL_BURSTS", ""))
 fault("exactly 128 call bursts end a call, more do not", "steps", "station",
-      GIVES_UP, "    if first == CS3 or station.cycles == MOST_CALL_BURSTS:\n")
+      GIVES_UP, GIVES_UP.replace(">=", "=="))
 fault("a wait of 127", "steps", "station",
       "CYCLES_TO_WAIT = 128", "CYCLES_TO_WAIT = 127")
 fault("a wait of 129", "steps", "station",
@@ -753,7 +761,8 @@ fault("Calling has a time-out", "steps", "station",
 fault("Stand-by has a time-out", "steps", "station",
       "COUNTING = (SENDING, TURNING,", "COUNTING = (STANDBY, SENDING, TURNING,")
 fault("a call offered is reported as taken where a row takes", "steps", "station",
-      "                  offer.kind != \"call\")", "                  True)")
+      "                  offer.kind not in CALLS)",
+      "                  offer.kind != \"call of seven\")")
 fault("a call offered at Sending holds the block back", "steps", "station",
       "        return Row(take(station, offer, other(station.number)), True)",
       "        if offer.kind == \"call\":\n"
@@ -764,6 +773,846 @@ fault("a call offered ends the circuit", "steps", "station",
 fault("a call offered at Receiving turns the direction", "steps", "station",
       "        if over or offer.kind == \"over\":\n",
       "        if over or offer.kind in (\"over\", \"call\"):\n")
+
+# --- The station: three-block calls and identification (02, T-05) ---
+
+# Of check-sums: the three words, their numbers, the letter.
+ADDED = "    added = sum(NUMBER_OF_WORD.get(word, 0) for word in identity[first:first + 3])\n"
+SUMMED = "    return CHECK_SUM_SIGNALS[added % 20]\n"
+IN_TABLE_3B = "CHECK_SUM_LETTERS = \"VXQKMPCYFSTBUEOIRZDA\""
+IS_CHECK_SUM = "    return word in CHECK_SUM_SIGNALS\n"
+
+fault("check-sums are of two letters", "steps", "signals",
+      ADDED, ADDED.replace("first + 3", "first + 2"))
+fault("check-sums are of four letters", "steps", "signals",
+      ADDED, ADDED.replace("first + 3", "first + 4"))
+fault("check-sums have no letter in common", "steps", "signals",
+      "    first = 2 * (number - 1)\n", "    first = 3 * (number - 1)\n")
+fault("check-sums begin one letter apart", "steps", "signals",
+      "    first = 2 * (number - 1)\n", "    first = number - 1\n")
+fault("check-sums are taken modulo 19", "steps", "signals",
+      SUMMED, SUMMED.replace("% 20", "% 19"))
+fault("check-sums over 19 less 20 once", "steps", "signals",
+      SUMMED, "    return CHECK_SUM_SIGNALS[min(added - 20 * (added > 19), 19)]\n")
+fault("check-sums over 19 are 19", "steps", "signals",
+      SUMMED, "    return CHECK_SUM_SIGNALS[min(added, 19)]\n")
+fault("check-sums count the letters from 1", "steps", "signals",
+      ADDED, ADDED.replace(".get(word, 0)", ".get(word, -1) + 1"))
+fault("check-sums: a word outside table 3a counts 1", "steps", "signals",
+      ADDED, ADDED.replace(".get(word, 0)", ".get(word, 1)"))
+fault("check-sums: bit 7 is not looked at", "steps", "signals",
+      ADDED, ADDED.replace("(word, 0)", "(word % 128, 0)"))
+fault("table 3a: the numbers of K and M are changed round", "steps", "signals",
+      "\"K\": 3, \"M\": 4", "\"K\": 4, \"M\": 3")
+fault("table 3a: the numbers of Q and R are changed round", "steps", "signals",
+      "\"Q\": 2, \"R\": 16", "\"Q\": 16, \"R\": 2")
+fault("table 3a: the number of V is 20 and that of X is 0", "steps", "signals",
+      "\"V\": 0, \"X\": 1,", "\"V\": 20, \"X\": 0,")
+fault("table 3b in the order of the alphabet", "steps", "signals",
+      IN_TABLE_3B, "CHECK_SUM_LETTERS = IDENTITY_LETTERS")
+fault("table 3b: O and P are changed round", "steps", "signals",
+      IN_TABLE_3B, "CHECK_SUM_LETTERS = \"VXQKMOCYFSTBUEPIRZDA\"")
+fault("table 3b: its end is turned round", "steps", "signals",
+      IN_TABLE_3B, "CHECK_SUM_LETTERS = \"VXQKMPCYFSTBUEOIRZAD\"")
+fault("a wrong check-sum is any traffic signal", "steps", "signals",
+      IS_CHECK_SUM, "    return is_traffic(word)\n")
+fault("a wrong check-sum is counted where it is damaged", "steps", "signals",
+      IS_CHECK_SUM, "    return True\n")
+fault("a wrong check-sum may have bit 7 set", "steps", "signals",
+      IS_CHECK_SUM, "    return word % 128 in CHECK_SUM_SIGNALS\n")
+fault("V is no wrong check-sum", "steps", "signals",
+      IS_CHECK_SUM, "    return word in CHECK_SUM_SIGNALS[1:]\n")
+fault("CS4 and CS5 are changed round", "steps", "signals",
+      "CS4 = traffic_word(7)\nCS5 = traffic_word(8)\n",
+      "CS4 = traffic_word(8)\nCS5 = traffic_word(7)\n")
+
+# The call blocks and the identification blocks.
+BLOCK_1_OF_7 = ("        return (identity[0], RQ, identity[1])\n"
+                "    if number == 2:\n")
+BLOCK_2_OF_7 = "        return (RQ, identity[2], identity[3])\n"
+BLOCK_3_OF_7 = BLOCK_2_OF_7 + "    return (identity[4], identity[5], identity[6])\n"
+ID_BLOCK_1 = "        return (identity[0], ALPHA, identity[1])\n"
+ID_BLOCK_2 = "        return (ALPHA, identity[2], identity[3])\n"
+ID_BLOCK_3 = "        return (identity[4], identity[5], identity[6])\n    return THREE_RQ\n"
+
+fault("three-block calls: call block 1 has alpha", "steps", "station",
+      BLOCK_1_OF_7, BLOCK_1_OF_7.replace("RQ", "ALPHA"))
+fault("three-block calls: call block 2 is that of a two-block call", "steps", "station",
+      BLOCK_2_OF_7, "        return (identity[2], identity[3], RQ)\n")
+fault("three-block calls: call block 2 has its signals changed round", "steps",
+      "station", BLOCK_2_OF_7, "        return (RQ, identity[3], identity[2])\n")
+fault("three-block calls: call block 3 is signals 4 to 6", "steps", "station",
+      BLOCK_3_OF_7, BLOCK_2_OF_7 + "    return (identity[3], identity[4], identity[5])\n")
+fault("three-block calls: call block 3 is turned round", "steps", "station",
+      BLOCK_3_OF_7, BLOCK_2_OF_7 + "    return (identity[6], identity[5], identity[4])\n")
+fault("identification block 1 is call block 1", "steps", "station",
+      ID_BLOCK_1, ID_BLOCK_1.replace("ALPHA", "RQ"))
+fault("identification block 1 is alpha and two letters", "steps", "station",
+      ID_BLOCK_1, "        return (ALPHA, identity[0], identity[1])\n")
+fault("identification block 2 has alpha between", "steps", "station",
+      ID_BLOCK_2, "        return (identity[2], ALPHA, identity[3])\n")
+fault("identification block 2 has alpha last", "steps", "station",
+      ID_BLOCK_2, "        return (identity[2], identity[3], ALPHA)\n")
+fault("identification block 3 is turned round", "steps", "station",
+      ID_BLOCK_3, ID_BLOCK_3.replace("[4]", "[x]").replace("[6]", "[4]").replace(
+          "[x]", "[6]"))
+fault("identification is ended by one RQ", "steps", "station",
+      ID_BLOCK_3, ID_BLOCK_3.replace("THREE_RQ", "single(RQ)"))
+fault("identification is ended by alpha alpha alpha", "steps", "station",
+      ID_BLOCK_3, ID_BLOCK_3.replace("THREE_RQ", "ALPHAS"))
+
+# Refusal 8, and a station with both identities.
+BOTH_JUDGED = "    index = first_outside(tuple(identity) + tuple(seven))\n"
+SEVEN_JUDGED = "        index = first_outside(tuple(offer.words) + station.own_seven)\n"
+REFUSES_8_OF_7 = """    if offer.kind == "call of seven":
+""" + SEVEN_JUDGED + """        if index is not None:
+            return Refused(8, index)
+"""
+OFFERS_SEVEN = "    if offer.kind == \"call of seven\":\n        index"
+
+fault("standing by, both: the seven are not judged", "calls J", "station",
+      BOTH_JUDGED, "    index = first_outside(identity)\n")
+fault("standing by, both: the four are not judged", "calls J", "station",
+      BOTH_JUDGED, "    index = first_outside(seven)\n")
+fault("standing by, both: the seven come first", "calls J", "station",
+      BOTH_JUDGED, "    index = first_outside(tuple(seven) + tuple(identity))\n")
+fault("standing by, both: the index is that in either list", "calls J", "station",
+      BOTH_JUDGED, BOTH_JUDGED + "    if index is not None and index > 3:\n"
+      "        index = index - 4\n")
+fault("standing by, both: the last word is not judged", "calls J", "station",
+      BOTH_JUDGED, "    index = first_outside(tuple(identity) + tuple(seven[:6]))\n")
+fault("standing by, both: refuses 3 for 8", "calls J", "station",
+      BOTH_JUDGED + "    if index is not None:\n        return Refused(8, index)\n",
+      BOTH_JUDGED + "    if index is not None:\n        return Refused(3, index)\n")
+fault("three-block calls: refusal 8 gone", "steps", "station", REFUSES_8_OF_7, "")
+fault("three-block calls: the own identity is not judged", "steps", "station",
+      SEVEN_JUDGED, "        index = first_outside(offer.words)\n")
+fault("three-block calls: the identity called is not judged", "steps", "station",
+      SEVEN_JUDGED, "        index = first_outside(station.own_seven)\n")
+fault("three-block calls: of the identity called four words are judged", "steps",
+      "station", SEVEN_JUDGED, "        index = first_outside(\n"
+      "            tuple(offer.words[:4]) + (71,) * 3 + station.own_seven)\n")
+fault("three-block calls: the own identity is judged first", "steps", "station",
+      SEVEN_JUDGED,
+      "        index = first_outside(station.own_seven + tuple(offer.words))\n")
+fault("three-block calls: the index is that in either list", "steps", "station",
+      SEVEN_JUDGED, SEVEN_JUDGED + "        if index is not None:\n"
+      "            index = index % 7\n")
+fault("three-block calls: the own identity of four is judged", "steps", "station",
+      SEVEN_JUDGED, "        index = first_outside(tuple(offer.words) + station.own)\n")
+fault("two-block calls: the own identity of seven is judged", "steps", "station",
+      "        index = first_outside(offer.words)\n",
+      "        index = first_outside(tuple(offer.words) + station.own_seven)\n")
+fault("three-block calls: refusal 8 behind 4", "steps", "station",
+      REFUSES_8_OF_7, "", (COUNT_JUDGED, COUNT_JUDGED + REFUSES_8_OF_7))
+fault("three-block calls: refusal 8 behind 4 of the held words", "steps", "station",
+      OFFERS_SEVEN, "    if offer.kind == \"call of seven\" and (\n"
+      "            station.place != SENDING or all(\n"
+      "                may_stand_in_block(word) for word in station.held)):\n        index")
+fault("three-block calls: refusal 8 behind 4 of the total", "steps", "station",
+      OFFERS_SEVEN, "    if offer.kind == \"call of seven\" and (\n"
+      "            station.place != ENDING or 1 <= station.total <= 4):\n        index")
+fault("three-block calls: refusal 8 at Stand-by alone", "steps", "station",
+      OFFERS_SEVEN, "    if offer.kind == \"call of seven\" and (\n"
+      "            station.place == STANDBY):\n        index")
+fault("three-block calls: refusal 8 only where the call would be placed", "steps",
+      "station", OFFERS_SEVEN, "    if offer.kind == \"call of seven\" and not (\n"
+      "            station.place == STANDBY and station.cycles):\n        index")
+fault("three-block calls: no refusal 8 at Lost", "steps", "station",
+      OFFERS_SEVEN, "    if offer.kind == \"call of seven\" and (\n"
+      "            station.place != LOST):\n        index")
+fault("the own identity of seven is judged at every step", "steps", "station",
+      COUNT_JUDGED, COUNT_JUDGED + "    if station.place == STANDBY and "
+      "first_outside(station.own_seven) is not None:\n        return Refused(4, 0)\n")
+fault("three-block calls: the identity called is judged at Calling", "steps", "station",
+      COUNT_JUDGED, COUNT_JUDGED + "    if station.place == CALLING_3 and "
+      "first_outside(station.seven) is not None:\n        return Refused(4, 0)\n")
+fault("the identity called is judged at Identifying", "steps", "station",
+      COUNT_JUDGED, COUNT_JUDGED + "    if station.place == IDENTIFYING and "
+      "first_outside(station.seven) is not None:\n        return Refused(4, 0)\n")
+fault("three-block calls: over 128 call bursts are refused 4", "steps", "station",
+      COUNT_JUDGED, COUNT_JUDGED + "    if station.place == CALLING_3 and "
+      "station.cycles > 128:\n        return Refused(4, 0)\n")
+fault("over four wrong check-sums are refused 4", "steps", "station",
+      COUNT_JUDGED, COUNT_JUDGED + "    if station.wrong > 4:\n"
+      "        return Refused(4, 0)\n")
+
+# The call blocks heard in succession.
+ORDERS = "WHOLE_CALLS = ((1, 2, 3), (2, 3, 1))\n"
+RUNS = "RUNS_OF_BLOCKS = ((), (1,), (1, 2), (2,), (2, 3))\n"
+SUCCESSION = "    heard = station.blocks + (own_call_block_of_seven(station, burst),)\n"
+OWN_BLOCK_OF_7 = ("            if burst == call_block_of_seven(station.own_seven, "
+                  "number):\n")
+HAS_SEVEN_OF_ITS_OWN = "    if first_outside(station.own_seven) is None:\n"
+HEARS_THREE = "    if blocks in WHOLE_CALLS:\n"
+
+fault("a three-block call is heard in the order 1, 2, 3 alone", "steps", "station",
+      ORDERS, "WHOLE_CALLS = ((1, 2, 3),)\n")
+fault("a three-block call is heard in the order 2, 3, 1 alone", "steps", "station",
+      ORDERS, "WHOLE_CALLS = ((2, 3, 1),)\n")
+fault("a three-block call is heard in the order 3, 1, 2 too", "steps", "station",
+      ORDERS, "WHOLE_CALLS = ((1, 2, 3), (2, 3, 1), (3, 1, 2))\n",
+      (RUNS, "RUNS_OF_BLOCKS = ((), (1,), (1, 2), (2,), (2, 3), (3,), (3, 1))\n"))
+fault("a three-block call is heard in the order 1, 2, 1 too", "steps", "station",
+      ORDERS, "WHOLE_CALLS = ((1, 2, 3), (2, 3, 1), (1, 2, 1))\n")
+fault("a three-block call is heard in the order 2, 3, 2 too", "steps", "station",
+      ORDERS, "WHOLE_CALLS = ((1, 2, 3), (2, 3, 1), (2, 3, 2))\n")
+fault("a three-block call: blocks 1 and 2 are enough", "steps", "station",
+      HEARS_THREE, "    if blocks in WHOLE_CALLS + ((1, 2),):\n")
+fault("a three-block call: blocks 2 and 3 are enough", "steps", "station",
+      HEARS_THREE, "    if blocks in WHOLE_CALLS + ((2, 3),):\n")
+fault("a three-block call: block 3 alone is enough", "steps", "station",
+      HEARS_THREE, "    if blocks in WHOLE_CALLS or (\n"
+      "            own_call_block_of_seven(station, burst) == 3):\n")
+fault("a three-block call: three of its blocks in any order", "steps", "station",
+      HEARS_THREE, "    if blocks in WHOLE_CALLS or len(station.blocks) == 2 and (\n"
+      "            own_call_block_of_seven(station, burst) > 0):\n")
+fault("a three-block call: block 1 and then block 3 leave a run", "steps", "station",
+      SUCCESSION, SUCCESSION + "    if heard == (1, 3):\n        return (2, 3)\n")
+fault("a three-block call: block 2 behind itself is forgotten", "steps", "station",
+      SUCCESSION, SUCCESSION + "    if heard == (2, 2):\n        return ()\n")
+fault("a three-block call: block 1 behind itself is forgotten", "steps", "station",
+      SUCCESSION, SUCCESSION + "    if heard == (1, 1):\n        return ()\n")
+fault("a three-block call: block 2 behind 1 and 2 is forgotten", "steps", "station",
+      SUCCESSION, SUCCESSION + "    if heard == (1, 2, 2):\n        return ()\n")
+fault("a three-block call: block 2 behind 1 and 2 leaves both", "steps", "station",
+      SUCCESSION, SUCCESSION + "    if heard == (1, 2, 2):\n        return (1, 2)\n")
+fault("a three-block call: block 2 behind 2 and 3 is forgotten", "steps", "station",
+      SUCCESSION, SUCCESSION + "    if heard == (2, 3, 2):\n        return ()\n")
+fault("a three-block call: block 1 behind 1 and 2 is forgotten", "steps", "station",
+      SUCCESSION, SUCCESSION + "    if heard == (1, 2, 1):\n        return ()\n")
+fault("a three-block call: block 1 behind block 2 is forgotten", "steps", "station",
+      SUCCESSION, SUCCESSION + "    if heard == (2, 1):\n        return ()\n")
+fault("a three-block call: block 3 behind 2 and 3 leaves both", "steps", "station",
+      SUCCESSION, SUCCESSION + "    if heard == (2, 3, 3):\n        return (2, 3)\n")
+fault("a three-block call: another burst between does not matter", "steps", "station",
+      SUCCESSION, SUCCESSION + "    if heard[-1] == 0:\n        return station.blocks\n")
+fault("a three-block call: a damaged burst between does not matter", "steps", "station",
+      SUCCESSION, SUCCESSION + "    if any(bin(word).count(\"1\") != 4 for word in burst"
+      "):\n        return station.blocks\n")
+fault("call blocks of seven signals outside table 3a are heard", "steps", "station",
+      HAS_SEVEN_OF_ITS_OWN, "    if True:\n")
+fault("of the own seven signals the first four alone are judged", "steps", "station",
+      HAS_SEVEN_OF_ITS_OWN, "    if first_outside(station.own_seven[:4]) is None:\n")
+fault("of the own seven signals the last three alone are judged", "steps", "station",
+      HAS_SEVEN_OF_ITS_OWN, "    if first_outside(station.own_seven[4:]) is None:\n")
+fault("without four signals of its own no call of seven is heard", "steps", "station",
+      HAS_SEVEN_OF_ITS_OWN,
+      "    if first_outside(station.own + station.own_seven) is None:\n")
+fault("a call block of seven signals is heard by its first two words", "steps",
+      "station", OWN_BLOCK_OF_7,
+      "            if burst[:2] == call_block_of_seven(station.own_seven, number)[:2]:\n")
+fault("a call block of seven signals is heard by its last two words", "steps",
+      "station", OWN_BLOCK_OF_7,
+      "            if burst[1:] == call_block_of_seven(station.own_seven, number)[1:]:\n")
+fault("a call block of seven signals is heard with bit 7 set", "steps", "station",
+      OWN_BLOCK_OF_7, "            if tuple(word % 128 for word in burst) == (\n"
+      "                    call_block_of_seven(station.own_seven, number)):\n")
+fault("a call block of seven signals is heard with its signals in any order", "steps",
+      "station", OWN_BLOCK_OF_7, "            if sorted(burst) == sorted(\n"
+      "                    call_block_of_seven(station.own_seven, number)):\n")
+fault("Stand-by keeps no call block of seven signals", "steps", "station",
+      SILENT_THERE, SILENT_THERE.replace("blocks=blocks", "blocks=()"))
+fault("a call block of four signals is kept only where it is none of seven", "steps",
+      "station", SILENT_THERE, SILENT_THERE.replace(
+          "last=heard", "last=0 if blocks else heard"))
+fault("a call block of seven signals is kept only where it is none of four", "steps",
+      "station", SILENT_THERE, SILENT_THERE.replace(
+          "blocks=blocks", "blocks=() if heard else blocks"))
+
+ANSWERS_THREE = """        answering_now = begin_call(at(station, ANSWERING, stage=1)
+                                   ._replace(master=False))
+"""
+ANSWERED_THREE = "return Row(Answer(answering_now, single(CS4), (), False), False)"
+
+fault("a three-block call answered: at Receiving with CS1", "steps", "station",
+      ANSWERED_THREE, "return Row(Answer(begin_call(at(station, RECEIVING, 1)._replace(\n"
+      "            master=False)), single(CS1), (), False), False)")
+fault("a three-block call answered by CS5", "steps", "station",
+      ANSWERED_THREE, ANSWERED_THREE.replace("CS4", "CS5"))
+fault("a three-block call answered by CS1", "steps", "station",
+      ANSWERED_THREE, ANSWERED_THREE.replace("CS4", "CS1"))
+fault("a three-block call answered: silent at first", "steps", "station",
+      ANSWERED_THREE, ANSWERED_THREE.replace("single(CS4)", "SILENCE"))
+fault("a three-block call answered takes the offer", "steps", "station",
+      ANSWERED_THREE, ANSWERED_THREE.replace("(), False)", "(), True)"))
+fault("a three-block call answered: the role is not changed", "steps", "station",
+      ANSWERS_THREE, "        answering_now = begin_call(at(station, ANSWERING, stage=1))\n")
+fault("a three-block call answered: at stage 2", "steps", "station",
+      ANSWERS_THREE, ANSWERS_THREE.replace("stage=1", "stage=2"))
+fault("a three-block call answered: the own signals are gathered", "steps", "station",
+      ANSWERS_THREE, ANSWERS_THREE.replace("stage=1", "stage=1, seven=station.own_seven"))
+fault("a three-block call answered: case, + and the other end stay", "steps", "station",
+      ANSWERS_THREE, ANSWERS_THREE.replace("begin_call(", "("))
+fault("no three-block call is answered during the wait", "steps", "station",
+      HEARS_THREE, "    if blocks in WHOLE_CALLS and station.cycles == 0:\n")
+fault("no three-block call is answered where one is offered", "steps", "station",
+      HEARS_THREE, "    if blocks in WHOLE_CALLS and offer.kind not in CALLS:\n")
+fault("where both calls are heard the three-block call is answered", "steps", "station",
+      HEARS_CALL, "    if heard != 0 and station.last == other(heard) and (\n"
+      "            blocks_in_succession(station, burst) not in WHOLE_CALLS):\n")
+
+# The call placed.
+PLACES_THREE = ("        if station.cycles == 0 or station.other_end != "
+                "Barred(identity):\n")
+PLACED_THREE = """            return Row(Answer(calling_now, call_block_of_seven(identity, 1), (),
+                              True), False)
+"""
+BEGINS_THREE = """            calling_now = begin_call(at(station, CALLING_3, cycles=1, seven=identity)
+                                     ._replace(master=True))
+"""
+
+fault("three-block calls: every identity is barred during the wait", "steps", "station",
+      PLACES_THREE, "        if station.cycles == 0:\n")
+fault("three-block calls: the bar is forgotten", "steps", "station",
+      PLACES_THREE, "        if True:\n")
+fault("three-block calls: barred when the wait is over too", "steps", "station",
+      PLACES_THREE, "        if station.other_end != Barred(identity):\n")
+fault("three-block calls: placed one step early", "steps", "station",
+      PLACES_THREE, PLACES_THREE.replace("station.cycles == 0", "station.cycles <= 1"))
+fault("three-block calls: a bar of any identity", "steps", "station",
+      PLACES_THREE, PLACES_THREE.replace("station.other_end != Barred(identity)",
+                                         "not isinstance(station.other_end, Barred)"))
+fault("three-block calls: the bar goes by the first four signals", "steps", "station",
+      PLACES_THREE, PLACES_THREE.replace(
+          "station.other_end != Barred(identity)",
+          "not isinstance(station.other_end, Barred) or (\n"
+          "                station.other_end.identity[:4] != identity[:4])"))
+fault("three-block calls: the bar goes by the last three signals", "steps", "station",
+      PLACES_THREE, PLACES_THREE.replace(
+          "station.other_end != Barred(identity)",
+          "not isinstance(station.other_end, Barred) or (\n"
+          "                station.other_end.identity[4:] != identity[4:])"))
+fault("three-block calls: seven signals at the other end are barred", "steps", "station",
+      PLACES_THREE, PLACES_THREE.replace(
+          "station.other_end != Barred(identity)",
+          "station.other_end not in (Barred(identity), identity)"))
+fault("two-block calls: not in the way of a bar", "steps", "station",
+      PLACES_CALL, "    if offer.kind == \"call\" and (\n"
+      "            station.cycles == 0 or isinstance(station.other_end, Barred)):\n")
+fault("a three-block call placed is not reported as taken", "steps", "station",
+      PLACED_THREE, PLACED_THREE.replace("True)", "False)"))
+fault("a three-block call placed: block 2 goes out first", "steps", "station",
+      PLACED_THREE, PLACED_THREE.replace("identity, 1", "identity, 2"))
+fault("a three-block call placed: the first burst is not counted", "steps", "station",
+      BEGINS_THREE, BEGINS_THREE.replace("cycles=1", "cycles=0"))
+fault("a three-block call placed: the wait runs on as bursts sent", "steps", "station",
+      BEGINS_THREE, BEGINS_THREE.replace("cycles=1", "cycles=station.cycles + 1"))
+fault("a three-block call placed: the role is not changed", "steps", "station",
+      BEGINS_THREE, BEGINS_THREE.replace("._replace(master=True))", ")"))
+fault("a three-block call placed: the bar of another one stays", "steps", "station",
+      BEGINS_THREE, BEGINS_THREE.replace("begin_call(", "("))
+fault("a three-block call placed: its own signals are called", "steps", "station",
+      BEGINS_THREE, BEGINS_THREE.replace("seven=identity", "seven=station.own_seven"))
+fault("a three-block call placed: the identity is at the other end at once", "steps",
+      "station", BEGINS_THREE, BEGINS_THREE
+      + "            calling_now = calling_now._replace(other_end=identity)\n")
+fault("a three-block call placed as a two-block call", "steps", "station",
+      BEGINS_THREE, "            calling_now = begin_call(at(\n"
+      "                station, CALLING, cycles=1, called=identity[:4])\n"
+      "                ._replace(master=True))\n")
+
+# Calling with three blocks.
+HEARS_CS4 = "    if first == CS4:\n"
+STARTS_IDENTIFYING = ("        identifying_now = at(station, IDENTIFYING, stage=1, "
+                      "seven=station.seven)\n")
+FIRST_ID_BLOCK = "                          identification_block(station.own_seven, 1),"
+HEARS_CS5 = "    if first == CS5:\n"
+ENDS_CALL = ("return Row(Answer(at(barred, ENDING, 2, total=1), ALPHAS, (), False), "
+             "False)")
+GIVES_UP_THREE = ("    if first == CS3 or station.cycles >= MOST_CALL_BURSTS:\n"
+                  "        # 001, 3.5.7 and 3.5.4.\n")
+GAVE_UP_THREE = "return Row(Answer(at(barred, STANDBY), SILENCE, (), False), False)"
+BARS = "    barred = station._replace(other_end=Barred(station.seven))\n"
+THREE_IN_TURN = "station.cycles % 3 + 1)\n"
+
+fault("CS4 is wanted twice", "steps", "station",
+      HEARS_CS4, "    if first == CS4 and station.last == 4:\n",
+      ("cycles=station.cycles + 1, seven=station.seven)",
+       "cycles=station.cycles + 1, seven=station.seven,\n"
+       "               last=4 if first == CS4 else 0)"))
+fault("CS4 is heard with bit 7 set", "steps", "station",
+      HEARS_CS4, "    if first % 128 == CS4:\n")
+fault("three-block calls: CS1 is taken for CS4", "steps", "station",
+      HEARS_CS4, "    if first in (CS1, CS4):\n")
+fault("three-block calls: CS2 is taken for CS4", "steps", "station",
+      HEARS_CS4, "    if first in (CS2, CS4):\n")
+fault("three-block calls: CS5 is taken for CS4", "steps", "station",
+      HEARS_CS4, "    if first in (CS4, CS5):\n")
+fault("three-block calls: CS1 leads to traffic", "steps", "station",
+      HEARS_CS4, "    if first == CS1:\n        return Row(take(station, offer, 1), False)\n"
+      + HEARS_CS4)
+fault("three-block calls: the answer to the 128th burst is not heard", "steps",
+      "station", HEARS_CS4, "    if first == CS4 and station.cycles < MOST_CALL_BURSTS:\n")
+fault("three-block calls: all three words are read", "steps", "station",
+      HEARS_CS4, "    if burst[1:] != (0, 0):\n        first = 0\n" + HEARS_CS4)
+fault("CS4 leads to stage 2", "steps", "station",
+      STARTS_IDENTIFYING, STARTS_IDENTIFYING.replace("stage=1", "stage=2"))
+fault("CS4: the identity called is forgotten", "steps", "station",
+      STARTS_IDENTIFYING, STARTS_IDENTIFYING.replace(", seven=station.seven", ""))
+fault("CS4: the identity called is at the other end at once", "steps", "station",
+      STARTS_IDENTIFYING, STARTS_IDENTIFYING
+      + "        identifying_now = identifying_now._replace(other_end=station.seven)\n")
+fault("CS4: a wrong check-sum is counted at once", "steps", "station",
+      STARTS_IDENTIFYING, STARTS_IDENTIFYING.replace("stage=1", "stage=1, wrong=1"))
+fault("CS4: the signals of the one called are sent", "steps", "station",
+      FIRST_ID_BLOCK, FIRST_ID_BLOCK.replace("own_seven", "seven"))
+fault("CS4: the own signals of the two-block call are sent", "steps", "station",
+      FIRST_ID_BLOCK, FIRST_ID_BLOCK.replace("own_seven", "own"))
+fault("CS5 is any other word", "steps", "station", HEARS_CS5, "    if False:\n")
+fault("CS5 leads to Stand-by at once", "steps", "station",
+      ENDS_CALL, "return Row(Answer(at(barred, STANDBY), ALPHAS, (), False), False)")
+fault("CS5: the end is under number 1", "steps", "station",
+      ENDS_CALL, ENDS_CALL.replace("ENDING, 2", "ENDING, 1"))
+fault("CS5: the end counts as sent twice", "steps", "station",
+      ENDS_CALL, ENDS_CALL.replace("total=1", "total=2"))
+fault("CS5: the end is silent at first", "steps", "station",
+      ENDS_CALL, ENDS_CALL.replace("ALPHAS", "SILENCE"))
+fault("CS5 bars nobody", "steps", "station",
+      ENDS_CALL, ENDS_CALL.replace("at(barred", "at(station"))
+fault("three-block calls: CS3 is any other word", "steps", "station",
+      GIVES_UP_THREE, GIVES_UP_THREE.replace("first == CS3 or ", ""))
+fault("three-block calls: without end", "steps", "station",
+      GIVES_UP_THREE, GIVES_UP_THREE.replace(
+          " or station.cycles >= MOST_CALL_BURSTS", ""))
+fault("three-block calls: 127 call bursts", "steps", "station",
+      GIVES_UP_THREE, GIVES_UP_THREE.replace("BURSTS", "BURSTS - 1"))
+fault("three-block calls: 129 call bursts", "steps", "station",
+      GIVES_UP_THREE, GIVES_UP_THREE.replace("BURSTS", "BURSTS + 1"))
+fault("three-block calls: exactly 128 call bursts end one, more do not", "steps",
+      "station", GIVES_UP_THREE, GIVES_UP_THREE.replace(">=", "=="))
+fault("three-block calls: one that is given up bars nobody", "steps", "station",
+      GAVE_UP_THREE, GAVE_UP_THREE.replace("at(barred", "at(station"))
+fault("three-block calls: one that is given up bars nobody, and waits", "steps",
+      "station", GAVE_UP_THREE, GAVE_UP_THREE.replace(
+          "at(barred, STANDBY)", "at(station, STANDBY, cycles=CYCLES_TO_WAIT)"))
+fault("three-block calls: one that is given up is ended", "steps", "station",
+      GAVE_UP_THREE, GAVE_UP_THREE.replace("STANDBY), SILENCE",
+                                           "ENDING, 2, total=1), ALPHAS"))
+fault("three-block calls: the own identity is barred", "steps", "station",
+      BARS, BARS.replace("station.seven", "station.own_seven"))
+fault("three-block calls: the identity called is at the other end, and not barred",
+      "steps", "station", BARS, BARS.replace("Barred(station.seven)", "station.seven"))
+fault("three-block calls: blocks 1 and 2 in turn", "steps", "station",
+      THREE_IN_TURN, THREE_IN_TURN.replace("% 3", "% 2"))
+fault("three-block calls: each block three times", "steps", "station",
+      THREE_IN_TURN, THREE_IN_TURN.replace("% 3", "// 3 % 3"))
+fault("three-block calls: the blocks from 3 down", "steps", "station",
+      THREE_IN_TURN, "3 - station.cycles % 3)\n")
+fault("three-block calls: block 1 again behind the first", "steps", "station",
+      THREE_IN_TURN, "(station.cycles - 1) % 3 + 1)\n")
+fault("three-block calls: Calling has a time-out", "steps", "station",
+      "COUNTING = (SENDING, TURNING,", "COUNTING = (CALLING_3, SENDING, TURNING,")
+
+# Entering Stand-by.
+STAYS_BARRED = "        if isinstance(other_end, Barred):\n            cycles = CYCLES_TO_WAIT\n"
+
+fault("entering Stand-by: a bar is forgotten", "steps", "station",
+      STAYS_BARRED + FORGETS, "        other_end = None\n")
+fault("entering Stand-by: a bar does not wait", "steps", "station",
+      STAYS_BARRED, STAYS_BARRED.replace("cycles = CYCLES_TO_WAIT", "pass"))
+fault("entering Stand-by: a bar waits for 127", "steps", "station",
+      STAYS_BARRED, STAYS_BARRED.replace("CYCLES_TO_WAIT", "CYCLES_TO_WAIT - 1"))
+fault("entering Stand-by: a bar waits for 129", "steps", "station",
+      STAYS_BARRED, STAYS_BARRED.replace("CYCLES_TO_WAIT", "CYCLES_TO_WAIT + 1"))
+fault("entering Stand-by: seven signals that were told are kept", "steps", "station",
+      FORGETS, "        elif other_end is None or len(other_end) == 4:\n"
+      "            other_end = None\n")
+fault("entering Stand-by: four signals are kept", "steps", "station",
+      FORGETS, "        elif other_end is None or len(other_end) == 7:\n"
+      "            other_end = None\n")
+fault("entering Stand-by: seven signals that were told are barred", "steps", "station",
+      FORGETS, "        elif other_end is not None and len(other_end) == 7:\n"
+      "            other_end = Barred(other_end)\n" + FORGETS)
+fault("entering Stand-by: seven signals that were told have it wait", "steps", "station",
+      FORGETS, "        elif other_end is not None and len(other_end) == 7:\n"
+      "            other_end = None\n            cycles = CYCLES_TO_WAIT\n" + FORGETS)
+fault("becoming Lost: a bar is forgotten", "steps", "station",
+      STILL_THERE, STILL_THERE.replace(
+          "station.other_end", "None if place == LOST and isinstance(\n"
+          "        station.other_end, Barred) else station.other_end"))
+fault("a turn: seven signals at the other end are forgotten", "steps",
+      "station", STILL_THERE, STILL_THERE.replace(
+          "station.other_end", "None if place == OPENING and isinstance(\n"
+          "        station.other_end, tuple) and len(station.other_end) == 7 "
+          "else station.other_end"))
+
+# Identifying.
+EXPECTS = "    elif first == check_sum(station.seven, stage):\n"
+NEXT_STAGE = ("        following = at(station, IDENTIFYING, stage=stage + 1, "
+              "seven=station.seven)\n")
+NEXT_BLOCK = """                          identification_block(station.own_seven, stage + 1), (),
+                          False), True)
+"""
+SAME_AGAIN = "        if station.wrong > 0 and first == station.last_wrong:\n"
+ENDS_WRONG = """            return Row(Answer(at(station, ENDING, 2, total=1), ALPHAS, (), False),
+                       False)
+"""
+TOO_MANY = "        if station.wrong >= MOST_WRONG:\n"
+GIVEN_UP = "            return Row(Answer(at(station, STANDBY), SILENCE, (), False), False)\n"
+COUNTS_WRONG = ("        again = station._replace(wrong=station.wrong + 1, "
+                "last_wrong=first)\n")
+WRONG_AGAIN = COUNTS_WRONG + "        return Row(Answer(again, block, (), False), False)\n"
+BLOCK_AGAIN = "    return Row(Answer(station, block, (), False), False)\n"
+ID_FIRST = """    first = burst[0]
+    stage = station.stage
+"""
+
+fault("Identifying reads all three words", "steps", "station",
+      ID_FIRST, ID_FIRST + "    if burst[1:] != (0, 0):\n        first = 0\n")
+fault("Identifying expects the check-sums of its own identity", "steps", "station",
+      EXPECTS, EXPECTS.replace("station.seven", "station.own_seven"))
+fault("Identifying expects check-sum 1 at every stage", "steps", "station",
+      EXPECTS, EXPECTS.replace(", stage", ", 1"))
+fault("Identifying takes any of the three check-sums", "steps", "station",
+      EXPECTS, "    elif first in [check_sum(station.seven, n) for n in (1, 2, 3)]:\n")
+fault("Identifying takes a check-sum with bit 7 set", "steps", "station",
+      EXPECTS, EXPECTS.replace("first ==", "first % 128 =="))
+fault("Identifying takes every letter for the check-sum", "steps", "station",
+      EXPECTS, "    elif is_check_sum_signal(first):\n")
+fault("Identifying goes on two stages", "steps", "station",
+      NEXT_STAGE, NEXT_STAGE.replace("stage + 1", "min(stage + 2, 4)"))
+fault("the next stage keeps the wrong check-sums counted", "steps", "station",
+      NEXT_STAGE, NEXT_STAGE.replace("stage + 1,", "stage + 1, wrong=station.wrong,"))
+fault("the next stage keeps the last wrong check-sum", "steps", "station",
+      NEXT_STAGE, NEXT_STAGE.replace("stage + 1,",
+                                     "stage + 1, last_wrong=station.last_wrong,"))
+fault("the next stage forgets the identity called", "steps", "station",
+      NEXT_STAGE, NEXT_STAGE.replace(", seven=station.seven", ""))
+fault("the next stage sends the block before it again", "steps", "station",
+      NEXT_BLOCK, NEXT_BLOCK.replace("stage + 1", "stage"))
+fault("the next stage counts as a repetition", "steps", "station",
+      NEXT_BLOCK, NEXT_BLOCK.replace("True", "False"))
+fault("the next stage sends the signals of the one called", "steps", "station",
+      NEXT_BLOCK, NEXT_BLOCK.replace("own_seven", "seven"))
+fault("wrong check-sums are not compared", "steps", "station",
+      SAME_AGAIN, "        if False:\n")
+fault("any second wrong check-sum ends the call", "steps", "station",
+      SAME_AGAIN, "        if station.wrong > 0:\n")
+fault("a wrong check-sum is compared where none was counted", "steps", "station",
+      SAME_AGAIN, "        if first == station.last_wrong:\n")
+fault("wrong check-sums are compared from the third on", "steps", "station",
+      SAME_AGAIN, SAME_AGAIN.replace("> 0", "> 1"))
+fault("wrong check-sums are compared once only", "steps", "station",
+      SAME_AGAIN, SAME_AGAIN.replace("station.wrong > 0", "station.wrong == 1"))
+fault("wrong check-sums are compared up to the fourth", "steps", "station",
+      SAME_AGAIN, SAME_AGAIN.replace("station.wrong > 0", "0 < station.wrong < 4"))
+fault("a wrong check-sum twice: the end is under number 1", "steps", "station",
+      ENDS_WRONG, ENDS_WRONG.replace("ENDING, 2", "ENDING, 1"))
+fault("a wrong check-sum twice leads to Stand-by", "steps", "station",
+      ENDS_WRONG, GIVEN_UP)
+fault("a wrong check-sum twice bars the identity called", "steps", "station",
+      ENDS_WRONG, ENDS_WRONG.replace(
+          "at(station,", "at(station._replace(\n                "
+          "other_end=Barred(station.seven)),"))
+fault("a wrong check-sum twice: the end takes the offer of an end", "steps", "station",
+      ENDS_WRONG, ENDS_WRONG.replace("(), False)", "(), offer.kind == \"end\")"))
+fault("a block goes out five times again for wrong check-sums", "steps", "station",
+      "MOST_WRONG = 4\n", "MOST_WRONG = 5\n")
+fault("a block goes out three times again for wrong check-sums", "steps", "station",
+      "MOST_WRONG = 4\n", "MOST_WRONG = 3\n")
+fault("wrong check-sums without end", "steps", "station",
+      TOO_MANY, "        if False:\n")
+fault("exactly four wrong check-sums, more do not", "steps", "station",
+      TOO_MANY, TOO_MANY.replace(">=", "=="))
+fault("the fifth wrong check-sum ends the call", "steps", "station",
+      TOO_MANY + "            # \"after which", TOO_MANY
+      + ENDS_WRONG + "            # \"after which")
+fault("the fifth wrong check-sum makes it Lost", "steps", "station",
+      GIVEN_UP, GIVEN_UP.replace("STANDBY", "LOST"))
+fault("the fifth wrong check-sum has it wait", "steps", "station",
+      GIVEN_UP, GIVEN_UP.replace("STANDBY", "STANDBY, cycles=CYCLES_TO_WAIT"))
+fault("the fifth wrong check-sum bars the identity called", "steps", "station",
+      GIVEN_UP, GIVEN_UP.replace("at(station,", "at(station._replace(\n                "
+                                 "other_end=Barred(station.seven)),"))
+fault("wrong check-sums are not counted", "steps", "station",
+      COUNTS_WRONG, COUNTS_WRONG.replace("wrong=station.wrong + 1, ", ""))
+fault("the last wrong check-sum is not kept", "steps", "station",
+      COUNTS_WRONG, COUNTS_WRONG.replace(", last_wrong=first", ""))
+fault("the first wrong check-sum is kept", "steps", "station",
+      COUNTS_WRONG, COUNTS_WRONG.replace(
+          "last_wrong=first", "last_wrong=station.last_wrong if station.wrong else first"))
+fault("a wrong check-sum is no repetition", "steps", "station",
+      WRONG_AGAIN, WRONG_AGAIN.replace("(), False), False)", "(), False), True)"))
+fault("a wrong check-sum has RQ RQ RQ sent", "steps", "station",
+      WRONG_AGAIN, WRONG_AGAIN.replace("again, block", "again, THREE_RQ"))
+fault("a damaged check-sum forgets the last wrong one", "steps", "station",
+      BLOCK_AGAIN, BLOCK_AGAIN.replace("station, block",
+                                       "station._replace(last_wrong=0), block"))
+fault("a damaged check-sum sets the wrong ones to none", "steps", "station",
+      BLOCK_AGAIN, BLOCK_AGAIN.replace("station, block",
+                                       "station._replace(wrong=0), block"))
+fault("RQ counts as a wrong check-sum", "steps", "station",
+      BLOCK_AGAIN, "    if first == RQ:\n"
+      "        station = station._replace(wrong=min(station.wrong + 1, 255))\n"
+      + BLOCK_AGAIN)
+fault("over four wrong check-sums are cut to four", "steps", "station",
+      BLOCK_AGAIN, BLOCK_AGAIN.replace(
+          "station, block", "station._replace(wrong=min(station.wrong, 4)), block"))
+fault("a damaged check-sum has RQ RQ RQ sent", "steps", "station",
+      BLOCK_AGAIN, BLOCK_AGAIN.replace("station, block", "station, THREE_RQ"))
+fault("CS4 at Identifying goes back to stage 1", "steps", "station",
+      BLOCK_AGAIN, "    if first == CS4:\n        return Row(Answer(\n"
+      "            station._replace(stage=1), identification_block(\n"
+      "                station.own_seven, 1), (), False), False)\n" + BLOCK_AGAIN)
+fault("CS5 at Identifying ends the call", "steps", "station",
+      BLOCK_AGAIN, "    if first == CS5:\n        return Row(Answer(\n"
+      "            at(station, ENDING, 2, total=1), ALPHAS, (), False), False)\n"
+      + BLOCK_AGAIN)
+
+ID_ENDS = """    if stage == 4:
+        known = station._replace(other_end=station.seven)
+        if first == CS1:
+"""
+ID_TAKES = "            return Row(take(known, offer, 1), False)\n"
+ID_TURNS = "            return Row(Answer(at(known, TURNING, 2), TURN, (), False), False)\n"
+
+fault("identification ends at stage 3 too", "steps", "station",
+      ID_ENDS, ID_ENDS.replace("stage == 4", "stage == 4 or stage == 3 and first == CS1"))
+fault("identification ends by CS2 too", "steps", "station",
+      ID_ENDS, ID_ENDS.replace("first == CS1", "first in (CS1, CS2)"))
+fault("identification ends by CS4", "steps", "station",
+      ID_ENDS, ID_ENDS.replace("first == CS1", "first == CS4"))
+fault("identification ended: nobody is at the other end", "steps", "station",
+      ID_ENDS, ID_ENDS.replace("station._replace(other_end=station.seven)", "station"))
+fault("identification ended: the own identity is at the other end", "steps", "station",
+      ID_ENDS, ID_ENDS.replace("=station.seven)", "=station.own_seven)"))
+fault("identification ended: four signals are at the other end", "steps", "station",
+      ID_ENDS, ID_ENDS.replace("=station.seven)", "=station.seven[:4])"))
+fault("identification ended: traffic under number 2", "steps", "station",
+      ID_TAKES, ID_TAKES.replace("offer, 1", "offer, 2"))
+fault("identification ended: the offer is not taken", "steps", "station",
+      ID_TAKES, "            return Row(take(known, NOTHING, 1)._replace(\n"
+      "                taken=offer.kind == \"nothing\"), False)\n")
+fault("identification ended leads to Opening", "steps", "station",
+      ID_TAKES, "            return Row(Answer(at(known, OPENING), request(station),\n"
+      "                              (), False), False)\n")
+fault("identification ended by CS3: the last block is 1", "steps", "station",
+      ID_TURNS, ID_TURNS.replace("TURNING, 2", "TURNING, 1"))
+fault("identification ended by CS3: the offer is taken", "steps", "station",
+      ID_TURNS, ID_TURNS.replace("(), False)", "(), True)"))
+fault("identification ended by CS3: nobody is at the other end", "steps", "station",
+      ID_TURNS, ID_TURNS.replace("at(known,", "at(station,"))
+fault("identification ended by CS3: RQ RQ RQ is sent", "steps", "station",
+      ID_TURNS, ID_TURNS.replace("TURN, ()", "THREE_RQ, ()"))
+fault("CS3 at the end of identification is any other word", "steps", "station",
+      "        if first == CS3:\n            # 001, 3.6.11",
+      "        if False:\n            # 001, 3.6.11")
+fault("CS3 at the end of identification leads to Stand-by", "steps", "station",
+      ID_TURNS, ID_TURNS.replace("at(known, TURNING, 2), TURN",
+                                 "at(known, STANDBY), SILENCE"))
+fault("a letter at stage 4 counts as a wrong check-sum", "steps", "station",
+      "    elif is_check_sum_signal(first):\n", "    if is_check_sum_signal(first) and (\n"
+      "            stage == 4 or first != check_sum(station.seven, stage)):\n")
+
+# Answering.
+ANSWERS_END = "    if burst == ALPHAS:\n        # 001, 3.6.17"
+ANSWERED_END = "return Row(Answer(at(station, STANDBY), single(CS1), (), False), False)"
+HEARS_LAST = "    if burst == THREE_RQ and stage == 4:\n"
+KNOWS = """        known = station._replace(other_end=station.seven)
+        if offer.kind == "over":
+"""
+ANSWERS_OVER = "            return Row(Answer(at(known, ASKING), single(CS3), (), True), False)\n"
+BEGINS_TRAFFIC = ("        return Row(Answer(at(known, RECEIVING, 1), single(CS1), (), "
+                  "False), False)\n")
+OF_THE_STAGE = "    if number == stage:\n"
+GATHERS = """        seven = gathered_with(station.seven, burst, number)
+        return Row("""
+ADVANCES = "at(station, ANSWERING, stage=stage + 1, seven=seven),\n"
+FIRST_SUM = """                          single(check_sum(station.own_seven, number)), (), False),
+                   True)
+"""
+OF_THE_LAST = "    if number != 0 and number == stage - 1:\n"
+SAME_LETTERS = "        if seven == station.seven:\n"
+SUM_AGAIN = "            word = check_sum(station.own_seven, number)\n"
+LAST_AGAIN = """        return Row(Answer(station._replace(seven=seven), single(word), (), False),
+                   False)
+"""
+ASKS_AGAIN = ("    return Row(Answer(station, single(CS4 if stage == 1 else RQ), (), "
+              "False), False)\n")
+IS_ID_BLOCK = "        if all(is_identity_signal(word) if place in places else word == ALPHA\n"
+ID_PLACES = ("LETTERS_OF_BLOCK = {1: ((0, 2), (0, 1)), 2: ((1, 2), (2, 3)), "
+             "3: ((0, 1, 2), (4, 5, 6))}\n")
+
+fault("the end at Answering is any other burst", "steps", "station",
+      ANSWERS_END, ANSWERS_END.replace("burst == ALPHAS", "False"))
+fault("the end at Answering is heard by its first two words", "steps", "station",
+      ANSWERS_END, ANSWERS_END.replace("burst == ALPHAS", "burst[:2] == ALPHAS[:2]"))
+fault("the end at Answering is heard behind the first stage alone", "steps", "station",
+      ANSWERS_END, ANSWERS_END.replace("burst == ALPHAS", "burst == ALPHAS and stage > 1"))
+fault("the end at Answering is answered by CS2", "steps", "station",
+      ANSWERED_END, ANSWERED_END.replace("CS1", "CS2"))
+fault("the end at Answering is answered in silence", "steps", "station",
+      ANSWERED_END, ANSWERED_END.replace("single(CS1)", "SILENCE"))
+fault("the end at Answering makes it Lost", "steps", "station",
+      ANSWERED_END, ANSWERED_END.replace("STANDBY", "LOST"))
+fault("the end at Answering has it wait", "steps", "station",
+      ANSWERED_END, ANSWERED_END.replace("STANDBY", "STANDBY, cycles=CYCLES_TO_WAIT"))
+fault("RQ RQ RQ ends identification at stage 3 too", "steps", "station",
+      HEARS_LAST, HEARS_LAST.replace("stage == 4", "stage >= 3"))
+fault("RQ RQ RQ ends identification at every stage", "steps", "station",
+      HEARS_LAST, "    if burst == THREE_RQ:\n")
+fault("one RQ ends identification", "steps", "station",
+      HEARS_LAST, "    if burst[0] == RQ and stage == 4:\n")
+fault("two RQ end identification", "steps", "station",
+      HEARS_LAST, "    if burst[:2] == (RQ, RQ) and stage == 4:\n")
+fault("identification answered: nobody is at the other end", "steps", "station",
+      KNOWS, KNOWS.replace("station._replace(other_end=station.seven)", "station"))
+fault("identification answered: the own identity is at the other end", "steps",
+      "station", KNOWS, KNOWS.replace("=station.seven)", "=station.own_seven)"))
+fault("identification answered: an over offered is not looked at", "steps", "station",
+      KNOWS, KNOWS.replace("offer.kind == \"over\"", "False"))
+fault("identification answered: every offer but nothing begins the traffic", "steps",
+      "station", KNOWS, KNOWS.replace("== \"over\"", "!= \"nothing\""))
+fault("identification answered: an over offered is not taken", "steps", "station",
+      ANSWERS_OVER, ANSWERS_OVER.replace("True", "False"))
+fault("identification answered: an over offered is sent as a block", "steps", "station",
+      ANSWERS_OVER, "            return Row(take(known, offer, 1), False)\n")
+fault("identification answered: an over offered leads to Opening", "steps", "station",
+      ANSWERS_OVER, ANSWERS_OVER.replace("ASKING", "OPENING"))
+fault("identification answered: it awaits 2", "steps", "station",
+      BEGINS_TRAFFIC, BEGINS_TRAFFIC.replace("RECEIVING, 1", "RECEIVING, 2"))
+fault("identification answered by CS2", "steps", "station",
+      BEGINS_TRAFFIC, BEGINS_TRAFFIC.replace("CS1", "CS2"))
+fault("identification answered by CS4", "steps", "station",
+      BEGINS_TRAFFIC, BEGINS_TRAFFIC.replace("CS1", "CS4"))
+fault("identification answered: nothing offered counts as taken", "steps", "station",
+      BEGINS_TRAFFIC, BEGINS_TRAFFIC.replace("False), False", "offer.kind == \"nothing\""
+                                             "), False"))
+fault("identification answered: the identity is printed", "steps", "station",
+      BEGINS_TRAFFIC, BEGINS_TRAFFIC.replace("(), False", "station.seven[:3], False"))
+fault("identification: Y5 Y6 Y7 before Y1 alpha Y2 is accepted", "steps", "station",
+      OF_THE_STAGE, "    if number == stage or number == 3 and stage == 1:\n")
+fault("identification: a block too far on is accepted", "steps", "station",
+      OF_THE_STAGE, "    if number >= stage:\n")
+fault("identification: a block of any number is accepted", "steps", "station",
+      OF_THE_STAGE, "    if number != 0 and stage < 4:\n")
+fault("identification: three plain letters begin it", "steps", "station",
+      OF_THE_STAGE, "    if stage == 1 and number == 3:\n        number = 0\n"
+      "        station = station._replace(seven=gathered_with(station.seven, burst, 3))\n"
+      + OF_THE_STAGE)
+fault("identification: nothing is gathered", "steps", "station",
+      ADVANCES, ADVANCES.replace("seven=seven", "seven=station.seven"))
+fault("identification: what was gathered before is dropped", "steps", "station",
+      GATHERS, GATHERS.replace("station.seven", "NO_SEVEN"))
+fault("identification: the stage is not gone on from", "steps", "station",
+      ADVANCES, ADVANCES.replace("stage=stage + 1", "stage=stage"))
+fault("identification: the check-sum of what was gathered is sent", "steps", "station",
+      FIRST_SUM, FIRST_SUM.replace("station.own_seven", "seven"))
+fault("identification: check-sum 1 is sent at every stage", "steps", "station",
+      FIRST_SUM, FIRST_SUM.replace(", number", ", 1"))
+fault("identification: CS4 is sent for a check-sum", "steps", "station",
+      FIRST_SUM, FIRST_SUM.replace("check_sum(station.own_seven, number)", "CS4"))
+fault("identification: a block accepted counts as a repetition", "steps", "station",
+      FIRST_SUM, FIRST_SUM.replace("True", "False"))
+fault("identification: three letters are printed", "steps", "station",
+      FIRST_SUM, FIRST_SUM.replace("(), False", "burst if number == 3 else (), False"))
+fault("identification: the letters of each block are printed", "steps", "station",
+      FIRST_SUM, FIRST_SUM.replace(
+          "(), False", "tuple(word for word in burst if word != ALPHA), False"))
+fault("identification: an earlier block is any other burst", "steps", "station",
+      OF_THE_LAST, "    if False:\n")
+fault("identification: every earlier block has its check-sum", "steps", "station",
+      OF_THE_LAST, "    if 0 < number < stage:\n")
+fault("identification: the same letters are not compared", "steps", "station",
+      SAME_LETTERS, "        if True:\n")
+fault("identification: the same letters have RQ sent too", "steps", "station",
+      SAME_LETTERS, "        if False:\n")
+fault("identification: only the first of the letters is compared", "steps", "station",
+      SAME_LETTERS, "        first = LETTERS_OF_BLOCK[number][1][0]\n"
+      "        if seven[first] == station.seven[first]:\n")
+fault("identification: other letters do not take the place of the first ones", "steps",
+      "station", LAST_AGAIN, LAST_AGAIN.replace("._replace(seven=seven)", ""))
+fault("identification: other letters are answered by CS4", "steps", "station",
+      "        word = RQ\n", "        word = CS4\n")
+fault("identification: other letters are answered by RQ RQ RQ", "steps", "station",
+      LAST_AGAIN, LAST_AGAIN.replace("single(word)",
+                                     "THREE_RQ if word == RQ else single(word)"))
+fault("identification: the check-sum again is the next one", "steps", "station",
+      SUM_AGAIN, SUM_AGAIN.replace("number", "min(number + 1, 3)"))
+fault("identification: a block heard again is no repetition", "steps", "station",
+      LAST_AGAIN, LAST_AGAIN.replace("                   False)", "                   True)"))
+fault("identification: other letters go back to the stage before", "steps", "station",
+      LAST_AGAIN, LAST_AGAIN.replace(
+          "station._replace(seven=seven)",
+          "station._replace(seven=seven, stage=stage - (word == RQ))"))
+fault("identification: CS4 is asked with at every stage", "steps", "station",
+      ASKS_AGAIN, ASKS_AGAIN.replace("CS4 if stage == 1 else RQ", "CS4"))
+fault("identification: RQ is asked with at stage 1 too", "steps", "station",
+      ASKS_AGAIN, ASKS_AGAIN.replace("CS4 if stage == 1 else RQ", "RQ"))
+fault("identification: RQ RQ RQ is asked with", "steps", "station",
+      ASKS_AGAIN, ASKS_AGAIN.replace("single(CS4 if stage == 1 else RQ)",
+                                     "single(CS4) if stage == 1 else THREE_RQ"))
+fault("identification: a damaged block forgets what was gathered", "steps", "station",
+      ASKS_AGAIN, ASKS_AGAIN.replace("Answer(station,",
+                                     "Answer(station._replace(seven=NO_SEVEN),"))
+fault("identification: a damaged block goes back to stage 1", "steps", "station",
+      ASKS_AGAIN, ASKS_AGAIN.replace("Answer(station,", "Answer(station._replace(stage=1),"))
+fault("identification: letters are all traffic signals", "steps", "station",
+      IS_ID_BLOCK, IS_ID_BLOCK.replace("is_identity_signal(word)", "is_traffic(word)"))
+fault("identification: any word may stand in the place of alpha", "steps", "station",
+      IS_ID_BLOCK, IS_ID_BLOCK.replace("word == ALPHA", "True"))
+fault("identification: RQ may stand in the place of alpha", "steps", "station",
+      IS_ID_BLOCK, IS_ID_BLOCK.replace("word == ALPHA", "word in (ALPHA, RQ)"))
+fault("identification: beta may stand in the place of alpha", "steps", "station",
+      IS_ID_BLOCK, IS_ID_BLOCK.replace("word == ALPHA", "word in (ALPHA, BETA)"))
+fault("identification: the letters may have bit 7 set", "steps", "station",
+      IS_ID_BLOCK, IS_ID_BLOCK.replace("is_identity_signal(word)",
+                                       "is_identity_signal(word % 128)"))
+fault("identification: the letters of block 1 are gathered the other way round",
+      "steps", "station", ID_PLACES, ID_PLACES.replace("(0, 2), (0, 1)", "(0, 2), (1, 0)"))
+fault("identification: the letters of block 2 are gathered in the place of the first",
+      "steps", "station", ID_PLACES, ID_PLACES.replace("(2, 3)", "(0, 1)"))
+fault("identification: the last letter of block 3 is not gathered", "steps", "station",
+      ID_PLACES, ID_PLACES.replace("(4, 5, 6)", "(4, 5)"))
+
+# The 32nd repetition.
+AT_THE_32ND = ("    if count == MOST_COUNT + 1 and station.place in (IDENTIFYING, "
+               "ANSWERING):\n")
+RESTS = "        resting = at(station, STANDBY)._replace(count=0)\n"
+
+fault("the 32nd repetition of identification makes it Lost", "steps", "station",
+      AT_THE_32ND, "    if False:\n")
+fault("the 32nd repetition makes Identifying Lost", "steps", "station",
+      AT_THE_32ND, AT_THE_32ND.replace("(IDENTIFYING, ANSWERING)", "(ANSWERING,)"))
+fault("the 32nd repetition makes Answering Lost", "steps", "station",
+      AT_THE_32ND, AT_THE_32ND.replace("(IDENTIFYING, ANSWERING)", "(IDENTIFYING,)"))
+fault("the 32nd repetition leads every place to Stand-by", "steps", "station",
+      AT_THE_32ND, "    if count == MOST_COUNT + 1:\n")
+fault("identification: 33 repetitions and more", "steps", "station",
+      "    count = station.count + 1\n", "    count = station.count + 1\n"
+      "    if station.place in (IDENTIFYING, ANSWERING):\n"
+      "        count = min(count, MOST_COUNT)\n")
+fault("identification: Stand-by one step early", "steps", "station",
+      AT_THE_32ND, AT_THE_32ND.replace("== MOST_COUNT + 1", ">= MOST_COUNT"))
+fault("Identifying has no time-out", "steps", "station",
+      "ASKING, IDENTIFYING, ANSWERING)\n", "ASKING, ANSWERING)\n")
+fault("Answering has no time-out", "steps", "station",
+      "ASKING, IDENTIFYING, ANSWERING)\n", "ASKING, IDENTIFYING)\n")
+fault("identification: the 32nd repetition keeps its count", "steps", "station",
+      RESTS, "        resting = at(station, STANDBY)\n")
+fault("identification: the 32nd repetition has it wait", "steps", "station",
+      RESTS, RESTS.replace("STANDBY", "STANDBY, cycles=CYCLES_TO_WAIT"))
+fault("identification: the 32nd repetition bars the identity", "steps", "station",
+      RESTS, RESTS.replace("at(station,", "at(station._replace(\n            "
+                           "other_end=Barred(station.seven)),"))
+fault("identification: the 32nd repetition sets letters case", "steps", "station",
+      RESTS, RESTS.replace("count=0", "count=0, case=\"letters\""))
+fault("identification: the 32nd repetition still sends its burst", "steps", "station",
+      "        return Answer(resting, SILENCE, (), False)",
+      "        return Answer(resting, answer.burst, (), False)")
+
+# A call of seven signals offered where none is placed.
+TAKEN_OF_TAKE = "                  offer.kind not in CALLS)"
+
+fault("a call of seven offered is reported as taken where a row takes", "steps",
+      "station", TAKEN_OF_TAKE, "                  offer.kind != \"call\")")
+fault("a call of seven offered ends the circuit", "steps", "station",
+      "    if offer.kind == \"end\":\n",
+      "    if offer.kind in (\"end\", \"call of seven\"):\n")
+fault("a call of seven offered at Receiving turns the direction", "steps", "station",
+      "        if over or offer.kind == \"over\":\n",
+      "        if over or offer.kind in (\"over\", \"call of seven\"):\n")
 
 # --- Mode B: the sender ---
 
@@ -1151,13 +2000,19 @@ fault("steps: a short last record is filled", "steps", "programs",
       "        station, burst, offer = read_step(\n"
       "            (data[start:start + RECORD] + bytes(RECORD))[:RECORD])")
 fault("steps: the place is taken modulo 16", "steps", "programs",
-      "place = PLACES[record[1] % 9]", "place = (PLACES * 2)[record[1] % 16]")
+      "place = PLACES[record[1] % 12]", "place = (PLACES * 2)[record[1] % 16]")
+fault("steps: there are nine places", "steps", "programs",
+      "place = PLACES[record[1] % 12]", "place = PLACES[record[1] % 9]")
 fault("steps: there are four offers", "steps", "programs",
-      "kind = OFFERS[record[13] % 5]", "kind = OFFERS[record[13] % 4]")
+      "kind = OFFERS[record[13] % 6]", "kind = OFFERS[record[13] % 4]")
+fault("steps: there are five offers", "steps", "programs",
+      "kind = OFFERS[record[13] % 6]", "kind = OFFERS[record[13] % 5]")
 fault("steps: a call has the words of a text before its last", "steps", "programs",
-      "words = record[28:32] if", "words = record[14:17] + record[31:32] if")
+      "        words = record[28:32]\n", "        words = record[14:17] + record[31:32]\n")
 fault("steps: who is at the other end is told by any byte", "steps", "programs",
-      "if record[23] % 2 == 1:", "if record[23] != 0:")
+      "    kind = record[23] % 4\n", "    kind = min(record[23], 3)\n")
+fault("steps: who is at the other end is told by the lowest bit", "steps", "programs",
+      "    kind = record[23] % 4\n", "    kind = record[23] % 2\n")
 fault("steps: the call block heard is the byte itself", "steps", "programs",
       "last = record[18] % 3", "last = record[18] if record[18] < 3 else 0")
 fault("steps: steps to wait are taken at every place", "steps", "programs",
@@ -1165,7 +2020,74 @@ fault("steps: steps to wait are taken at every place", "steps", "programs",
 fault("steps: the identity called is that of the call offered", "steps", "programs",
       "called = tuple(record[3:7])", "called = tuple(record[28:32])")
 fault("steps: the own identity is shown", "steps", "programs",
-      "+ s.called + other_end", "+ s.own + other_end")
+      "(role, s.cycles, s.last) + s.called +", "(role, s.cycles, s.last) + s.own +")
+fault("steps: records of 32 bytes", "steps", "programs",
+      "RECORD = 60\n", "RECORD = 32\n")
+fault("steps: records of 56 bytes", "steps", "programs",
+      "RECORD = 60\n", "RECORD = 56\n")
+fault("steps: a barred identity is read as one that was told", "steps", "programs",
+      "    return seven if kind == 2 else mode_a.Barred(seven)\n", "    return seven\n")
+fault("steps: seven signals that were told are read as barred", "steps", "programs",
+      "    return seven if kind == 2 else mode_a.Barred(seven)\n",
+      "    return mode_a.Barred(seven)\n")
+fault("steps: the last three signals of the other end are those offered", "steps",
+      "programs", "record[24:28] + record[39:42]", "record[24:28] + record[42:45]")
+fault("steps: the last three signals offered are those of the other end", "steps",
+      "programs", "record[28:32] + record[42:45]", "record[28:32] + record[39:42]")
+fault("steps: a call of seven has the signals from 28 on in a row", "steps", "programs",
+      "record[28:32] + record[42:45]", "record[28:35]")
+fault("steps: the own identity of seven begins with that of four", "steps", "programs",
+      "own_seven=tuple(record[32:39])", "own_seven=tuple(record[19:23] + record[36:39])")
+fault("steps: the blocks heard are the byte itself", "steps", "programs",
+      "mode_a.RUNS_OF_BLOCKS[record[45] % 5]",
+      "mode_a.RUNS_OF_BLOCKS[record[45] if record[45] < 5 else 0]")
+fault("steps: the blocks heard in another order", "steps", "programs",
+      "mode_a.RUNS_OF_BLOCKS[record[45] % 5]",
+      "mode_a.RUNS_OF_BLOCKS[(0, 1, 3, 2, 4)[record[45] % 5]]")
+fault("steps: the stage is the remainder itself", "steps", "programs",
+      "stage = record[46] % 4 + 1", "stage = record[46] % 4 or 4")
+fault("steps: there are three stages", "steps", "programs",
+      "stage = record[46] % 4 + 1", "stage = record[46] % 3 + 1")
+fault("steps: the wrong check-sums counted are the remainder by 8", "steps", "programs",
+      "        wrong = record[47]\n", "        wrong = record[47] % 8\n")
+fault("steps: the last wrong check-sum without bit 7", "steps", "programs",
+      "        last_wrong = record[48]\n", "        last_wrong = record[48] % 128\n")
+fault("steps: wrong check-sums at Answering too", "steps", "programs",
+      "    if place == mode_a.IDENTIFYING:\n        wrong",
+      "    if place in HAS_STAGES:\n        wrong")
+fault("steps: what was gathered is not read", "steps", "programs",
+      "    if place in HAS_SEVEN:\n",
+      "    if place in HAS_SEVEN and place != mode_a.ANSWERING:\n")
+fault("steps: seven signals at every place", "steps", "programs",
+      "    if place in HAS_SEVEN:\n", "    if place not in (mode_a.STANDBY, mode_a.ENDING):\n")
+fault("steps: a control signal heard at Calling with three blocks", "steps", "programs",
+      "KEEPS_LAST = (mode_a.STANDBY, mode_a.CALLING)",
+      "KEEPS_LAST = (mode_a.STANDBY, mode_a.CALLING, mode_a.CALLING_3)",
+      ("(role, s.cycles, s.last)", "(role, s.cycles, s.last or (\n"
+       "            s.place == mode_a.CALLING_3 and 1))"))
+fault("steps: no call bursts are read at Calling with three blocks", "steps", "programs",
+      "mode_a.CALLING, mode_a.CALLING_3)\nKEEPS", "mode_a.CALLING)\nKEEPS")
+fault("steps: a barred identity is written as seven", "steps", "programs",
+      "return \"barred\", other_end.identity", "return \"seven\", other_end.identity")
+fault("steps: of a barred identity four signals are written", "steps", "programs",
+      "return \"barred\", other_end.identity",
+      "return \"barred\", other_end.identity[:4] + (0, 0, 0)")
+fault("steps: of seven signals at the other end four are written", "steps", "programs",
+      "        return \"seven\", other_end\n",
+      "        return \"seven\", other_end[:4] + (0, 0, 0)\n")
+fault("steps: the last three of the other end are written before the seven", "steps",
+      "programs", "        + s.seven + signals[4:])", "        + signals[4:] + s.seven)")
+fault("steps: the stage is written from 0", "steps", "programs",
+      "s.stage, s.wrong, s.last_wrong", "max(s.stage - 1, 0), s.wrong, s.last_wrong")
+fault("steps: the wrong check-sums are written in the other order", "steps", "programs",
+      "s.stage, s.wrong, s.last_wrong", "s.stage, s.last_wrong, s.wrong")
+fault("steps: the own identity of seven is shown", "steps", "programs",
+      "        + s.seven + signals[4:])", "        + s.own_seven + signals[4:])")
+fault("steps: a refusal has another part behind it", "steps", "programs",
+      "        return \"refused %d %d\\n\" % (answer.number, answer.beside)\n"
+      "    s = answer.station\n",
+      "        return \"refused %d %d | 0\\n\" % (answer.number, answer.beside)\n"
+      "    s = answer.station\n")
 fault("steps: the number is the byte itself", "steps", "programs",
       "number = 1 if record[2] % 2 == 1 else 2", "number = 1 if record[2] == 1 else 2")
 fault("calls: a room of 8,193 passes", "calls", "programs",
@@ -1275,6 +2197,18 @@ fault("calls I: three words are enough", "calls I", "programs",
       "answer = mode_a.standing_by(cut(data, place, 4)[:3])")
 fault("calls I: a record has three words", "calls I", "programs",
       "    return line, place + 4\n", "    return line, place + 3\n")
+fault("calls J: a record has four words", "calls J", "programs",
+      "    return line, place + 11\n", "    return line, place + 4\n")
+fault("calls J: the seven come before the four", "calls J", "programs",
+      "mode_a.standing_by_both(words[:4], words[4:])",
+      "mode_a.standing_by_both(words[7:], words[:7])")
+fault("calls J: the four alone are handed on", "calls J", "programs",
+      "mode_a.standing_by_both(words[:4], words[4:])", "mode_a.standing_by(words[:4])")
+fault("calls J: no such kind", "calls J, calls", "programs",
+      "            elif kind == b\"J\":\n", "            elif kind == b\"J\" and False:\n")
+fault("calls J: a record cut short is filled", "calls", "programs",
+      "    words = cut(data, place, 11)\n",
+      "    words = (data[place:place + 11] + bytes([71]) * 11)[:11]\n")
 fault("calls R: the words in the other order", "calls R", "programs",
       "oldest, middle, newest = fields[4], fields[5], fields[6]",
       "oldest, middle, newest = fields[6], fields[5], fields[4]")

@@ -17,11 +17,11 @@ import programs
 import station as mode_a
 import text
 from refusal import Refused
-from signals import (ALPHA, BETA, CARRIAGE_RETURN, CS1, CS2, CS3, FIGURES,
+from signals import (ALPHA, BETA, CARRIAGE_RETURN, CS1, CS2, CS3, CS4, CS5, FIGURES,
                      IDENTITY_SIGNALS, LETTERS, LINE_FEED, MEANING, PLUS, QUERY,
-                     RQ, is_traffic)
-from station import (ASKING, CALLING, ENDING, LOST, OPENING, RECEIVING, SENDING,
-                     STANDBY, TURNING)
+                     RQ, check_sum, is_traffic)
+from station import (ANSWERING, ASKING, CALLING, CALLING_3, ENDING, IDENTIFYING, LOST,
+                     OPENING, RECEIVING, SENDING, STANDBY, TURNING)
 
 # about: what the input tries, for the report of a difference.
 # fed: how the program gets it.  A file gives it in whole blocks; bytes and odd
@@ -850,8 +850,20 @@ def helpful_burst(draw, slave):
         return (RQ,) + draw.choice(((0, 0), (RQ, RQ)))
     if slave.place == CALLING:
         return single(draw.choice((CS1, CS2)))
+    if slave.place == CALLING_3:
+        return single(CS4)
+    if slave.place == IDENTIFYING:
+        if slave.stage == 4:
+            return single(draw.choice((CS1, CS3)))
+        return single(check_sum(slave.seven, slave.stage))
+    if slave.place == ANSWERING:
+        return mode_a.identification_block(identity(draw, 7), slave.stage)
     if slave.place == STANDBY and slave.own != mode_a.NO_IDENTITY:
-        return mode_a.call_block(slave.own, draw.choice((1, 2)))
+        if slave.own_seven == mode_a.NO_SEVEN or draw.random() < 0.5:
+            return mode_a.call_block(slave.own, draw.choice((1, 2)))
+        # What leads on to one of the two orders.
+        number = {(): 1, (1,): 2, (1, 2): 3, (2,): 3, (2, 3): 1}[slave.blocks]
+        return mode_a.call_block_of_seven(slave.own_seven, number)
     return any_burst(draw)
 
 
@@ -993,6 +1005,10 @@ def hear_cases(draw):
         behind = (block[0], block[2], RQ)
         out.append(quickly("call blocks at Stand-by", joined(
             [(ALPHA, ALPHA, ALPHA), block, behind, block, behind])))
+    # And of one without seven signals.
+    blocks = [mode_a.call_block_of_seven(mode_a.NO_SEVEN, number) for number in (1, 2, 3)]
+    out.append(quickly("three call blocks at Stand-by", joined(
+        [(ALPHA, ALPHA, ALPHA)] + blocks * 2)))
     # The time-out to the burst, at each place that has one.
     for place in (SENDING, TURNING, OPENING, RECEIVING, ASKING):
         for bad in (30, 31, 32, 33):
@@ -1023,71 +1039,81 @@ STEPS_IN_A_CASE = 20000
 
 
 # For blocks, with what an over is made of well among it; the first word of a
-# block that is no control signal.
+# block that is no control signal and no letter of table 3a.
 OVER_PARTS = [PLUS, QUERY, FIGURES, BETA] * 4
-BLOCK_FIRST = [word for word in IN_BLOCK
-               if word not in (CS1, CS2, CS3)] + OVER_PARTS
+BLOCK_FIRST = [word for word in IN_BLOCK if word not in IDENTITY_SIGNALS
+               and word not in (CS1, CS2, CS3, CS4, CS5)] + [FIGURES, BETA] * 4
 BLOCK_REST = IN_BLOCK + OVER_PARTS
+LETTERS_FIRST = IDENTITY_SIGNALS + [PLUS, QUERY] * 10
+
+# The kinds of burst: the five control signals and the letters of table 3a first,
+# each as a block and otherwise; three RQ, RQ first otherwise, another block, beta
+# alpha beta, alpha alpha alpha, anything else.
+KINDS_OF_BURST = range(18)
 
 
 def burst_of_kind(draw, kind):
-    """The kinds of burst of docs/DECISIONS.md, each drawn at random."""
-    if kind < 6:
-        first = (CS1, CS2, CS3)[kind // 2]
+    """A burst of this kind, drawn at random."""
+    if kind < 12:
+        first = (CS1, CS2, CS3, CS4, CS5, draw.choice(LETTERS_FIRST))[kind // 2]
         if kind % 2 == 0:
-            return (first,) + tuple(draw.choices(IN_BLOCK, k=2))
+            return (first,) + tuple(draw.choices(BLOCK_REST, k=2))
         rest = draw.choice(((0, 0), tuple(draw.choices(WORDS, k=2)),
                             tuple(draw.choices(NOT_IN_BLOCK, k=2))))
         return (first,) + rest
-    if kind == 6:
+    if kind == 12:
         return (RQ, RQ, RQ)
-    if kind == 7:
+    if kind == 13:
         return (RQ,) + draw.choice(((0, 0), (RQ, 0), (0, RQ), (71, 71),
                                     tuple(draw.choices(WORDS, k=2))))
-    if kind == 8:
+    if kind == 14:
         return (draw.choice(BLOCK_FIRST),) + tuple(draw.choices(BLOCK_REST, k=2))
-    if kind == 9:
+    if kind == 15:
         return (BETA, ALPHA, BETA)
-    if kind == 10:
+    if kind == 16:
         return (ALPHA, ALPHA, ALPHA)
     # Anything else, near misses often.
     return draw.choice((
         tuple(draw.choices(WORDS, k=3)), (0, 0, 0), (ALPHA, ALPHA, 0),
         (ALPHA, 0, ALPHA), (0, ALPHA, ALPHA), (BETA, ALPHA, ALPHA),
         (ALPHA, BETA, ALPHA), (BETA, ALPHA, 0), (0, RQ, RQ), (71, RQ, RQ),
-        (71, 71, RQ), (71, 0, 71), (128 + CS1, 0, 0), (71, 86, ALPHA)))
+        (71, 71, RQ), (71, 0, 71), (128 + CS1, 0, 0), (71, 86, ALPHA),
+        (128 + CS4, 0, 0), (128 + 71, 0, 0), (ALPHA, 71, 86)))
 
 
 # Sorts of offer: nothing, good text, bad text, over, end, text with one word of
-# any value, a good call, a bad one.
-NO_OFFER, TEXT, BAD_TEXT, OVER, END, ANY_TEXT, CALL, BAD_CALL = range(8)
-SORTS = range(8)
+# any value, a good call and a bad one, and the same of seven signals.
+(NO_OFFER, TEXT, BAD_TEXT, OVER, END, ANY_TEXT, CALL, BAD_CALL, CALL_7,
+ BAD_CALL_7) = SORTS = range(10)
+# Those that no word they hold has refused.
+GOOD_SORTS = (NO_OFFER, TEXT, OVER, END, CALL, CALL_7)
 
 
 def offer_of_sort(draw, sort):
-    """Byte 13, the three words of a text and the four of a call.  Those that the
-    kind does not have are of any value."""
-    kind = (0, 1, 1, 2, 3, 1, 4, 4)[sort]
+    """Byte 13, the three words of a text, and the four and three of a call.  Those
+    that the kind does not have are of any value."""
+    kind = (0, 1, 1, 2, 3, 1, 4, 4, 5, 5)[sort]
     words = draw.choices(IN_BLOCK, k=3) if kind == 1 else draw.randbytes(3)
     if sort == BAD_TEXT:
         for index in draw.choice(((0,), (1,), (2,), (0, 1), (1, 2), (0, 1, 2))):
             words[index] = draw.choice(NOT_IN_BLOCK)
     elif sort == ANY_TEXT:
         words[draw.randrange(3)] = draw.choice(WORDS)
-    if kind == 4:
-        called = identity(draw)
-        if sort == BAD_CALL:
-            called = outside(draw, called)
-    else:
-        called = draw.randbytes(4)
-    return (stretched(draw, kind, 5), *words, *called)
+    length = {4: 4, 5: 7}.get(kind, 0)
+    called = identity(draw, length)
+    if sort in (BAD_CALL, BAD_CALL_7):
+        called = outside(draw, called)
+    return (stretched(draw, kind, 6), *words, *called, *draw.randbytes(7 - length))
 
 
-NOTHING_OFFERED = (0,) * 8
+NOTHING_OFFERED = (0,) * 11
 
 
 def call_offer(called):
-    return (4, 0, 0, 0) + tuple(called)
+    """The offer of a call of four or of seven signals."""
+    if len(called) == 7:
+        return (5, 0, 0, 0, *called)
+    return (4, 0, 0, 0, *called, 0, 0, 0)
 
 
 def stretched(draw, value, step):
@@ -1099,9 +1125,9 @@ def stretched(draw, value, step):
 FEW_LETTERS = IDENTITY_SIGNALS[:3]
 
 
-def identity(draw):
-    """Four words of table 3a."""
-    return tuple(draw.choices(draw.choice((FEW_LETTERS, IDENTITY_SIGNALS)), k=4))
+def identity(draw, length=4):
+    """So many words of table 3a."""
+    return tuple(draw.choices(draw.choice((FEW_LETTERS, IDENTITY_SIGNALS)), k=length))
 
 
 # Words outside table 3a that a wrong rule may take for one within it: the letters
@@ -1114,33 +1140,42 @@ NEARLY_IN_IDENTITY += [0, 128 + IDENTITY_SIGNALS[0]]
 def outside(draw, words):
     """The identity with one word outside table 3a, or more."""
     words = list(words)
-    for index in draw.choice(((0,), (1,), (2,), (3,), (0, 3), (1, 2), (2, 3),
-                              (0, 1, 2, 3))):
+    many = draw.choice((1, 1, 1, 1, 2, 2, 2, len(words)))
+    for index in draw.sample(range(len(words)), many):
         words[index] = draw.choice(draw.choice((NEARLY_IN_IDENTITY,
                                                 NOT_IN_IDENTITY)))
     return tuple(words)
 
 
-def own_identity(draw):
+def own_identity(draw, length=4):
     """Most often one that can be called; else none, or one with a word outside
     table 3a."""
     way = draw.randrange(10)
     if way < 7:
-        return identity(draw)
-    return mode_a.NO_IDENTITY if way == 7 else outside(draw, identity(draw))
+        return identity(draw, length)
+    return (0,) * length if way == 7 else outside(draw, identity(draw, length))
 
 
 # Steps left to wait and call bursts sent: around none and around 128.
 CYCLES = (0, 1, 2, 3, 126, 127, 128, 129, 254, 255)
 
 
+# How often a wrong check-sum has had a block sent again: around none and four.
+WRONG = (0, 1, 2, 3, 4, 5, 255)
+
+# Where the own identity of seven signals is heard, sent or added up.
+USES_OWN_SEVEN = (STANDBY, CALLING_3, IDENTIFYING, ANSWERING)
+
+
 def record(draw, role, place, number, count, burst, offer, total=None,
            case=None, plus=None, held=None, cycles=None, last=None, own=None,
-           other_end=None, called=None):
-    """A record of 32 bytes.  Only the low part of a field counts, so the rest
+           other_end=None, called=None, own_seven=None, blocks=None, stage=None,
+           wrong=None, last_wrong=None, seven=None):
+    """A record of 60 bytes.  Only the low part of a field counts, so the rest
     of its byte is drawn at random; so are fields the place does not carry.
-    other_end: an identity, or "nobody"; called: the identity called at
-    Calling, in the bytes of the words held and of the total."""
+    other_end: an identity of four or of seven signals, one that is barred, or
+    "nobody"; called: the identity called at Calling, in the bytes of the words
+    held and of the total."""
     if held is None:
         held = draw.choices(IN_BLOCK, k=3)
         if draw.random() < 0.05:
@@ -1157,41 +1192,73 @@ def record(draw, role, place, number, count, burst, offer, total=None,
         cycles = draw.choice(CYCLES)
     if last is None:
         last = draw.randrange(3)
+    # Where nothing turns on them these are any bytes.
+    name = programs.PLACES[place]
     if own is None:
-        own = own_identity(draw)
-    known = draw.randrange(2)
-    if other_end is not None:
-        known = 0 if other_end == "nobody" else 1
-    if other_end in (None, "nobody"):
-        other_end = draw.randbytes(4)
+        own = own_identity(draw) if name == STANDBY else draw.randbytes(4)
+    if own_seven is None:
+        matters = name in USES_OWN_SEVEN or offer[0] % 6 == 5
+        own_seven = own_identity(draw, 7) if matters else draw.randbytes(7)
+    if wrong is None:
+        wrong = draw.choice(WRONG)
+    if last_wrong is None:
+        last_wrong = draw.choice(draw.choice((IDENTITY_SIGNALS, WORDS)))
+    if seven is None:
+        carried = name in programs.HAS_SEVEN
+        seven = own_identity(draw, 7) if carried else draw.randbytes(7)
+    blocks_byte, stage_byte, known, *signals_of_other = draw.randbytes(10)
+    if blocks is not None:
+        blocks_byte = stretched(draw, mode_a.RUNS_OF_BLOCKS.index(blocks), 5)
+    if stage is not None:
+        stage_byte = stretched(draw, stage - 1, 4)
+    known = known % 4
+    if other_end == "nobody":
+        known = 0
+    elif isinstance(other_end, mode_a.Barred):
+        known, signals_of_other = 3, other_end.identity
+    elif other_end is not None:
+        known = 1 if len(other_end) == 4 else 2
+        signals_of_other = (*other_end, *signals_of_other[len(other_end):])
     return bytes((
-        stretched(draw, role, 2), stretched(draw, place, 9),
+        stretched(draw, role, 2), stretched(draw, place, 12),
         stretched(draw, number, 2), *held, total, count,
         stretched(draw, case, 2), stretched(draw, plus, 2), *burst, *offer[:4],
-        cycles, stretched(draw, last, 3), *own, stretched(draw, known, 2),
-        *other_end, *offer[4:]))
+        cycles, stretched(draw, last, 3), *own, stretched(draw, known, 4),
+        *signals_of_other[:4], *offer[4:8], *own_seven, *signals_of_other[4:],
+        *offer[8:], blocks_byte, stage_byte, wrong, last_wrong, *seven,
+        *draw.randbytes(4)))
 
 
 def written_out(draw, station, burst, offer):
     """The record of a step of this station; offer as of `offer_of_sort`."""
-    held = station.held if station.place == SENDING else None
-    total = station.total if station.place == ENDING else None
-    called = station.called if station.place == CALLING else None
-    counted = station.place in programs.COUNTS_CYCLES
+    place = station.place
+
+    def carried(value, *places):
+        return value if place in places else None
+
     return record(draw, 0 if station.master else 1,
-                  programs.PLACES.index(station.place), station.number % 2,
-                  station.count, burst, offer, total=total,
+                  programs.PLACES.index(place), station.number % 2,
+                  station.count, burst, offer,
+                  total=carried(station.total, ENDING),
                   case=0 if station.case == "letters" else 1,
-                  plus=int(station.plus), held=held,
-                  cycles=station.cycles if counted else None,
-                  last=station.last if counted else None, own=station.own,
-                  other_end=station.other_end or "nobody", called=called)
+                  plus=int(station.plus), held=carried(station.held, SENDING),
+                  cycles=carried(station.cycles, *programs.COUNTS_CYCLES),
+                  last=carried(station.last, *programs.KEEPS_LAST),
+                  own=station.own, other_end=station.other_end or "nobody",
+                  called=carried(station.called, CALLING),
+                  own_seven=station.own_seven,
+                  blocks=carried(station.blocks, STANDBY),
+                  stage=carried(station.stage, *programs.HAS_STAGES),
+                  wrong=carried(station.wrong, IDENTIFYING),
+                  last_wrong=carried(station.last_wrong, IDENTIFYING),
+                  seven=carried(station.seven, *programs.HAS_SEVEN))
 
 
 def offered(offer):
     """The offer of byte 13 and the words behind it."""
-    kind = programs.OFFERS[offer[0] % 5]
-    return mode_a.Offer(kind, tuple(offer[4:] if kind == "call" else offer[1:4]))
+    kind = programs.OFFERS[offer[0] % 6]
+    words = {"call": offer[4:8], "call of seven": offer[4:]}.get(kind, offer[1:4])
+    return mode_a.Offer(kind, tuple(words))
 
 
 def spoilt(draw, burst):
@@ -1211,12 +1278,15 @@ def chain_records(draw, station, most):
         helped = draw.random() < 0.004
         offer = offer_of_sort(draw, draw.choice(
             (NO_OFFER, NO_OFFER, TEXT, TEXT, OVER, END, CALL)))
+        at_the_last = (station.count == mode_a.MOST_COUNT
+                       and station.place in programs.HAS_STAGES)
         for _ in range(50):
             burst = helpful_burst(draw, station) if helped else draw.choice(
                 (any_burst(draw), spoilt(draw, helpful_burst(draw, station))))
             answer = mode_a.step(station, burst, offered(offer))
             if helped or answer.station.place == LOST or (
-                    answer.station.count == station.count + 1):
+                    answer.station.count == station.count + 1) or (
+                    at_the_last and answer.station.place == STANDBY):
                 break
         yield written_out(draw, station, burst, offer)
         station = answer.station
@@ -1242,8 +1312,9 @@ def circuit_records(draw, most, chance):
 
 
 def long_records(draw):
-    """Time-outs: chains from each place that has one, from fresh stations and
-    over damaged circuits, and damage at each place around the 32nd."""
+    """Time-outs: chains from each place and stage that has one, from fresh
+    stations and over damaged circuits, and damage at each place around the
+    32nd."""
     for place in (SENDING, TURNING, OPENING, RECEIVING, ASKING):
         for master in (True, False):
             for count in (0, 0, 0, 29, 30, 31):
@@ -1255,6 +1326,14 @@ def long_records(draw):
                 if place == SENDING:
                     station = station._replace(held=block(draw))
                 yield from chain_records(draw, station, 40)
+    for place in (IDENTIFYING, ANSWERING):
+        for stage in (1, 2, 3, 4):
+            for count in (0, 0, 30):
+                yield from chain_records(draw, mode_a.Station(
+                    place == IDENTIFYING, place, 0, mode_a.NO_BLOCK, 0, count,
+                    draw.choice(("letters", "figures")), draw.random() < 0.5,
+                    own=identity(draw), own_seven=identity(draw, 7), stage=stage,
+                    seven=identity(draw, 7)), 40)
     for fresh in (mode_a.fresh_master(), mode_a.fresh_slave()):
         for _ in range(10):
             yield from chain_records(draw, fresh, 70)
@@ -1270,7 +1349,12 @@ def long_records(draw):
                     draw.randint(1, 4), count,
                     draw.choice(("letters", "figures")), draw.random() < 0.5,
                     own=own_identity(draw), cycles=draw.choice(CYCLES),
-                    last=draw.randrange(3), called=identity(draw))
+                    last=draw.randrange(3), called=identity(draw),
+                    own_seven=own_identity(draw, 7),
+                    blocks=draw.choice(mode_a.RUNS_OF_BLOCKS),
+                    stage=draw.randint(1, 4), wrong=draw.choice(WRONG),
+                    last_wrong=draw.choice(IDENTITY_SIGNALS),
+                    seven=identity(draw, 7))
                 helpful = helpful_burst(draw, station)
                 offer = offer_of_sort(draw, draw.choice(SORTS))
                 yield written_out(draw, station, helpful, offer)
@@ -1357,7 +1441,7 @@ def standby_records(draw):
             called = list(identity(draw))
             called[index] = word
             yield stood(identity(draw), (0, 0, 0), call_offer(called), cycles=0)
-            yield record(draw, draw.randrange(2), draw.randrange(9),
+            yield record(draw, draw.randrange(2), draw.randrange(12),
                          draw.randrange(2), draw.choice((0, 31, 32)),
                          any_burst(draw), call_offer(called))
 
@@ -1396,7 +1480,9 @@ def caller_offer(draw, station, called):
     at last the end.  A call is offered now and then while the circuit stands."""
     if station.place == STANDBY:
         return call_offer(called)
-    sort = draw.choice((NO_OFFER, TEXT, TEXT, TEXT, TEXT, OVER, OVER, CALL))
+    # One without seven signals of its own would be refused a call of seven.
+    call = CALL if station.own_seven == mode_a.NO_SEVEN else CALL_7
+    sort = draw.choice((NO_OFFER, TEXT, TEXT, TEXT, TEXT, OVER, OVER, call))
     return offer_of_sort(draw, END if draw.random() < 0.1 else sort)
 
 
@@ -1446,13 +1532,13 @@ def crossed_records(draw, most):
         if station.place == CALLING:
             burst = draw.choice((single(CS1), single(CS2), single(CS1),
                                  single(CS2), any_burst(draw), single(CS3)))
-            sort = draw.choice(SORTS[:BAD_CALL])
+            sort = draw.choice(GOOD_SORTS)
         else:
             blocks = near_own_blocks(station.own)
             burst = draw.choice(blocks[:2] * 4 + [draw.choice(blocks),
                                                   any_burst(draw)])
             if draw.random() < 0.1:
-                sort = draw.choice(SORTS[:BAD_CALL])
+                sort = draw.choice(GOOD_SORTS)
         offer = offer_of_sort(draw, sort)
         answer = mode_a.step(station, burst, offered(offer))
         yield written_out(draw, station, burst, offer)
@@ -1476,13 +1562,492 @@ def all_call_records(draw):
         yield from crossed_records(draw, 40)
 
 
+# --- steps: three-block calls and identification (02, T-05) ---
+
+def good_offer(draw):
+    """What no word of it has refused."""
+    return offer_of_sort(draw, draw.choice(GOOD_SORTS))
+
+
+def both_identities(draw):
+    """An identity of four signals and one of seven; half of the time both begin
+    with the same two, so that their first call blocks are alike."""
+    four, seven = identity(draw), identity(draw, 7)
+    if draw.random() < 0.5:
+        seven = four[:2] + seven[2:]
+    return four, seven
+
+
+def some_other_end(draw, called=None):
+    """Who is at the other end, each kind of it.  Where an identity is given, the
+    one that is barred is that one, or nearly."""
+    near = list(called or identity(draw, 7))
+    if called is not None and draw.random() < 0.5:
+        index = draw.randrange(7)
+        near[index] = draw.choice([word for word in IDENTITY_SIGNALS
+                                   if word != near[index]])
+    return draw.choice(("nobody", identity(draw), identity(draw, 7), tuple(called or near),
+                        mode_a.Barred(tuple(near)),
+                        mode_a.Barred(tuple(called or near))))
+
+
+def near_own_blocks_of_seven(own):
+    """The three call blocks of an identity, and bursts that a wrong rule may take
+    for one of them."""
+    one, two, three, four, five, six, seven = own
+    return [
+        (one, RQ, two), (RQ, three, four), (five, six, seven),
+        # Those of two-block calls and of identification; the signals changed round.
+        (three, four, RQ), (one, ALPHA, two), (ALPHA, three, four), (two, RQ, one),
+        (RQ, four, three), (seven, six, five), (five, seven, six), (three, RQ, four),
+        # A word short, or another in its place.
+        (one, RQ, 0), (0, RQ, two), (one, 0, two), (RQ, three, 0), (RQ, 0, four),
+        (0, three, four), (five, six, 0), (five, 0, seven), (0, six, seven),
+        (RQ, RQ, two), (one, RQ, RQ), (RQ, RQ, four), (RQ, three, RQ), (RQ, RQ, RQ),
+        (one, two, three), (one, RQ, four), (RQ, one, two), (five, six, RQ)]
+
+
+def standby_of_seven_records(draw):
+    """Stand-by hears its three call blocks, and places three-block calls."""
+    place = programs.PLACES.index(STANDBY)
+
+    def stood(own, burst, offer, **fields):
+        four, seven = own
+        return record(draw, draw.randrange(2), place, draw.randrange(2),
+                      draw.choice((0, 0, 0, 0, 0, 1, 31, 32)), burst, offer, own=four,
+                      own_seven=seven, **fields)
+
+    # Behind each run of blocks and each own block of four signals: the blocks of
+    # either identity, and what is nearly one.
+    for blocks in mode_a.RUNS_OF_BLOCKS:
+        for last in range(3):
+            for cycles in (0, 1, 128, draw.choice(CYCLES)):
+                for _ in range(2):
+                    own = both_identities(draw)
+                    ours = near_own_blocks_of_seven(own[1])
+                    for burst in ours[:3] + near_own_blocks(own[0])[:2] + [
+                            draw.choice(ours[3:]), one_other(draw, ours[0]),
+                            one_other(draw, ours[1]), one_other(draw, ours[2]),
+                            any_burst(draw)]:
+                        yield stood(own, burst, good_offer(draw), last=last,
+                                    blocks=blocks, cycles=cycles)
+        for _ in range(3):
+            own = both_identities(draw)
+            for burst in near_own_blocks_of_seven(own[1]):
+                yield stood(own, burst, NOTHING_OFFERED, blocks=blocks, last=0)
+    # A call that completes, with each offer; behind a block of the four, which may
+    # complete its own.
+    for number, blocks in ((1, (2, 3)), (3, (1, 2))):
+        for sort in SORTS:
+            for cycles in (0, 1, 128):
+                for last in range(3):
+                    own = both_identities(draw)
+                    yield stood(own, mode_a.call_block_of_seven(own[1], number),
+                                offer_of_sort(draw, sort), blocks=blocks, cycles=cycles,
+                                last=last)
+    # A call of seven that is offered: to wait or not, and who is barred.
+    for cycles in CYCLES:
+        for _ in range(40):
+            called = identity(draw, 7)
+            own = both_identities(draw)
+            ours = near_own_blocks_of_seven(own[1])
+            yield stood(own, draw.choice([(0, 0, 0), any_burst(draw)] + ours[:3]),
+                        call_offer(called), cycles=cycles, last=draw.choice((0, 0, 1)),
+                        other_end=some_other_end(draw, called))
+        for sort in (CALL, NO_OFFER, OVER):
+            for _ in range(6):
+                yield stood(both_identities(draw), (0, 0, 0), offer_of_sort(draw, sort),
+                            cycles=cycles, other_end=some_other_end(draw))
+    # Of a barred identity each signal is another one.
+    for index in range(7):
+        for _ in range(6):
+            called = identity(draw, 7)
+            barred = list(called)
+            barred[index] = draw.choice([word for word in WORDS
+                                         if word != called[index]])
+            for other in (barred, called):
+                yield stood(both_identities(draw), (0, 0, 0), call_offer(called),
+                            cycles=draw.choice((1, 128)),
+                            other_end=mode_a.Barred(tuple(other)))
+    # Each word at each place of the own identity of seven, with either of its
+    # blocks that complete the call; one of which no word is within.
+    for word in WORDS:
+        for index in range(7):
+            four, seven = both_identities(draw)
+            seven = seven[:index] + (word,) + seven[index + 1:]
+            for number, blocks in ((1, (2, 3)), (3, (1, 2))):
+                yield stood((four, seven), mode_a.call_block_of_seven(seven, number),
+                            NOTHING_OFFERED, blocks=blocks, last=0)
+    for seven in ((0,) * 7, (RQ,) * 7):
+        for number in (1, 2, 3):
+            for blocks in mode_a.RUNS_OF_BLOCKS:
+                yield stood((identity(draw), seven),
+                            mode_a.call_block_of_seven(seven, number), NOTHING_OFFERED,
+                            blocks=blocks)
+
+
+def refusal_of_seven_records(draw):
+    """Refusal 8 of three-block calls: each of the fourteen words outside, at each
+    place, with what 4 would refuse too."""
+    for place in range(12):
+        for index in range(14):
+            for count in (0, 0, 31, 32, 255):
+                words = list(identity(draw, 14))
+                words[index] = draw.choice(draw.choice((NEARLY_IN_IDENTITY,
+                                                        NOT_IN_IDENTITY)))
+                if draw.random() < 0.5:
+                    for second in range(index + 1, 14):
+                        words[second] = draw.choice(NEARLY_IN_IDENTITY)
+                offer = (5, *draw.randbytes(3), *words[:7])
+                held = draw.choice((None, [draw.choice(NOT_IN_BLOCK)] * 3))
+                yield record(draw, draw.randrange(2), place, draw.randrange(2), count,
+                             any_burst(draw), offer, held=held, own_seven=words[7:],
+                             total=draw.choice((0, 1, 5)))
+                # The own identity matters to no other offer.
+                yield record(draw, draw.randrange(2), place, draw.randrange(2), count,
+                             any_burst(draw), good_offer(draw), own_seven=words[7:])
+    for word in WORDS:
+        for index in range(14):
+            words = list(identity(draw, 14))
+            words[index] = word
+            yield record(draw, draw.randrange(2), draw.randrange(12),
+                         draw.randrange(2), draw.choice((0, 31)), any_burst(draw),
+                         (5, *draw.randbytes(3), *words[:7]), own_seven=words[7:])
+
+
+def calling_three_records(draw):
+    """Calling with three blocks: each answer, and counters on both sides of 128."""
+    place = programs.PLACES.index(CALLING_3)
+
+    def calls(burst, offer, **fields):
+        called = identity(draw, 7)
+        if draw.random() < 0.1:
+            called = tuple(draw.choices(WORDS, k=7))
+        return record(draw, draw.randrange(2), place, draw.randrange(2),
+                      draw.choice((0, 0, 0, 1, 31)), burst, offer, seven=called,
+                      **fields)
+
+    for sent in CYCLES:
+        for sort in SORTS:
+            for first in (CS1, CS2, CS3, CS4, CS5, draw.choice(MUTILATED),
+                          draw.choice((RQ, ALPHA, BETA, 71, 128 + CS4, 128 + CS5))):
+                rest = draw.choice(((0, 0), tuple(draw.choices(WORDS, k=2))))
+                yield calls((first,) + rest, offer_of_sort(draw, sort), cycles=sent)
+    for word in WORDS:
+        for sent in (draw.randint(1, 127), 127, 128):
+            yield calls((word, 0, 0), good_offer(draw), cycles=sent)
+        for first in (CS1, CS3, CS4, CS5, 0):
+            yield calls(single(first), good_offer(draw), cycles=word,
+                        own_seven=identity(draw, 7))
+
+
+def wrong_letters(stage, seven, last_wrong):
+    """The letters that are neither the check-sum expected nor the last wrong one."""
+    expected = check_sum(seven, stage) if stage < 4 else 0
+    return [word for word in IDENTITY_SIGNALS if word not in (expected, last_wrong)]
+
+
+def identifying_records(draw):
+    """Identifying: each stage, each number of wrong check-sums, each answer."""
+    place = programs.PLACES.index(IDENTIFYING)
+
+    def identifies(first, offer, count, **fields):
+        rest = draw.choice(((0, 0), (0, 0), tuple(draw.choices(WORDS, k=2))))
+        return record(draw, draw.choice((0, 0, 0, 1)), place, draw.randrange(2), count,
+                      (first,) + rest, offer, **fields)
+
+    for stage in (1, 2, 3, 4):
+        for wrong in WRONG:
+            for count in (0, draw.choice((1, 15)), 30, 31, 32):
+                for _ in range(2):
+                    seven, own = identity(draw, 7), identity(draw, 7)
+                    expected = check_sum(seven, min(stage, 3))
+                    last_wrong = draw.choice([word for word in IDENTITY_SIGNALS
+                                              if word != expected])
+                    others = wrong_letters(stage, seven, last_wrong)
+                    firsts = [
+                        expected, last_wrong, draw.choice(others), draw.choice(others),
+                        check_sum(seven, draw.choice((1, 2, 3))),
+                        check_sum(own, min(stage, 3)), CS1, CS2, CS3, CS4, CS5, RQ,
+                        draw.choice((ALPHA, BETA, LETTERS, LINE_FEED)),
+                        draw.choice(NEARLY_IN_IDENTITY), draw.choice(MUTILATED),
+                        128 + expected, 128 + last_wrong]
+                    for first in firsts:
+                        yield identifies(first, good_offer(draw), count, stage=stage,
+                                         wrong=wrong, last_wrong=last_wrong,
+                                         seven=seven, own_seven=own,
+                                         other_end=some_other_end(draw))
+                    # A last wrong one that is the one expected, or no letter.
+                    for last_wrong in (expected, 0, 128 + expected, CS1, RQ):
+                        first = draw.choice((expected, last_wrong, draw.choice(others)))
+                        yield identifies(first, good_offer(draw), count, stage=stage,
+                                         wrong=wrong, last_wrong=last_wrong,
+                                         seven=seven, own_seven=own)
+    # Each word first, at each stage; and identities with words outside table 3a.
+    for word in WORDS:
+        for stage in (1, 2, 3, 4):
+            yield identifies(word, good_offer(draw), 0, stage=stage,
+                             wrong=draw.choice((0, 1)), seven=identity(draw, 7),
+                             last_wrong=draw.choice((word, 71)))
+            yield identifies(word, offer_of_sort(draw, TEXT), 0, stage=stage, wrong=0,
+                             seven=identity(draw, 7), last_wrong=word)
+    for stage in (1, 2, 3):
+        for index in range(7):
+            for _ in range(12):
+                seven = list(identity(draw, 7))
+                seven[index] = draw.choice(draw.choice((WORDS, NEARLY_IN_IDENTITY)))
+                yield identifies(check_sum(seven, stage), good_offer(draw), 0,
+                                 stage=stage, seven=seven, own_seven=own_identity(draw, 7))
+    # Each letter at each of the places that a check-sum adds up, of the identity
+    # called; and each check-sum as the answer.
+    for word in IDENTITY_SIGNALS:
+        for index in range(7):
+            for stage in (1, 2, 3):
+                seven = list(identity(draw, 7))
+                seven[index] = word
+                yield identifies(check_sum(seven, stage), NOTHING_OFFERED, 0,
+                                 stage=stage, seven=seven)
+        for stage in (1, 2, 3):
+            for wrong in (0, 1):
+                for _ in range(4):
+                    yield identifies(word, NOTHING_OFFERED, 0, stage=stage, wrong=wrong,
+                                     seven=identity(draw, 7))
+    for sort in SORTS:
+        for first in (CS1, CS3, RQ, 0):
+            for count in (0, 31):
+                for _ in range(3):
+                    yield identifies(first, offer_of_sort(draw, sort), count, stage=4,
+                                     other_end=some_other_end(draw))
+
+
+def near_identification(draw, gathered):
+    """The three identification blocks of the signals gathered and of others, and
+    bursts that a wrong rule may take for one of them."""
+    one, two, three, four, five, six, seven = gathered
+    other = identity(draw, 7)
+    out = [mode_a.identification_block(gathered, number) for number in (1, 2, 3)]
+    out += [mode_a.identification_block(other, number) for number in (1, 2, 3)]
+    # One letter another one; the letters changed round.
+    for block in out[:3]:
+        words = list(block)
+        index = draw.choice([index for index in range(3) if words[index] != ALPHA])
+        words[index] = draw.choice([word for word in IDENTITY_SIGNALS
+                                    if word != words[index]])
+        out.append(tuple(words))
+    out += [(two, ALPHA, one), (ALPHA, four, three), (seven, six, five)]
+    # One word outside table 3a, or damaged.
+    for block in out[:3]:
+        words = list(block)
+        words[draw.randrange(3)] = draw.choice((draw.choice(NEARLY_IN_IDENTITY),
+                                                draw.choice(MUTILATED)))
+        out.append(tuple(words))
+        out.append(tuple(word | 128 if word == block[2] else word for word in block))
+    return out + [
+        (ALPHA, ALPHA, two), (one, ALPHA, ALPHA), (one, two, ALPHA), (ALPHA, three, ALPHA),
+        (ALPHA, ALPHA, ALPHA), (ALPHA, ALPHA, 0), (0, ALPHA, ALPHA), (ALPHA, 0, ALPHA),
+        (RQ, RQ, RQ), (RQ, 0, 0), (RQ, RQ, 0), (0, RQ, RQ), (RQ, ALPHA, RQ),
+        (one, RQ, two), (RQ, three, four), (one, BETA, two), (BETA, three, four),
+        (BETA, ALPHA, BETA), (BETA, BETA, BETA), (LINE_FEED,) * 3, (five, six, LINE_FEED),
+        single(CS1), single(CS3), single(CS4), single(RQ), (0, 0, 0), (one, 0, two),
+        (three, ALPHA, four), (five, six, 0), (ALPHA, 0, 0)]
+
+
+def answering_records(draw):
+    """Answering: each stage, blocks as they were gathered and others, the end."""
+    place = programs.PLACES.index(ANSWERING)
+
+    def answers(burst, offer, count, **fields):
+        return record(draw, draw.choice((1, 1, 1, 0)), place, draw.randrange(2), count,
+                      burst, offer, **fields)
+
+    for stage in (1, 2, 3, 4):
+        for count in (0, draw.choice((1, 15)), 30, 31, 32):
+            for _ in range(4):
+                gathered = identity(draw, 7)
+                for burst in near_identification(draw, gathered):
+                    yield answers(burst, good_offer(draw), count, stage=stage,
+                                  seven=gathered, other_end=some_other_end(draw),
+                                  own_seven=own_identity(draw, 7))
+        # Only as much gathered as a run has by then.
+        for _ in range(12):
+            gathered = identity(draw, 7)[:(0, 2, 4, 7)[stage - 1]]
+            gathered += (0,) * (7 - len(gathered))
+            for number in (1, 2, 3):
+                for seven in (gathered, identity(draw, 7)):
+                    yield answers(mode_a.identification_block(seven, number),
+                                  NOTHING_OFFERED, draw.choice((0, 3)), stage=stage,
+                                  seven=gathered, own_seven=identity(draw, 7))
+        # The block whose number is the stage less one, each letter of it another.
+        for index in range(7):
+            gathered = list(identity(draw, 7))
+            heard = list(gathered)
+            heard[index] = draw.choice([word for word in IDENTITY_SIGNALS
+                                        if word != heard[index]])
+            for number in (1, 2, 3):
+                yield answers(mode_a.identification_block(heard, number),
+                              good_offer(draw), 0, stage=stage, seven=gathered)
+        # The end of identification with each offer.
+        for sort in SORTS:
+            for count in (0, 31):
+                for _ in range(3):
+                    yield answers((RQ, RQ, RQ), offer_of_sort(draw, sort), count,
+                                  stage=stage, other_end=some_other_end(draw))
+        # Each word at each place of each block.
+        for word in WORDS:
+            for number in (1, 2, 3):
+                block = list(mode_a.identification_block(identity(draw, 7), number))
+                block[draw.randrange(3)] = word
+                yield answers(tuple(block), NOTHING_OFFERED, 0, stage=stage)
+    # Each letter of the own identity at each place, for the check-sums.
+    for word in IDENTITY_SIGNALS:
+        for index in range(7):
+            for stage in (1, 2, 3):
+                own = list(identity(draw, 7))
+                own[index] = word
+                yield answers(mode_a.identification_block(identity(draw, 7), stage),
+                              NOTHING_OFFERED, 0, stage=stage, own_seven=own)
+
+
+def left_for_standby_records(draw):
+    """Every way into Stand-by and to Lost, with each kind of other end."""
+    silence = (0, 0, 0)
+    alphas = (ALPHA, ALPHA, ALPHA)
+    # A place, fields of it, and the burst.
+    ways = [
+        (OPENING, {}, single(CS3)), (RECEIVING, {}, alphas), (ASKING, {}, silence),
+        (ENDING, {"total": 4}, silence), (ENDING, {"total": 1}, single(CS1)),
+        (ENDING, {"total": 2}, single(CS2)), (CALLING, {"cycles": 5}, single(CS3)),
+        (CALLING, {"cycles": 128}, silence), (CALLING_3, {"cycles": 5}, single(CS3)),
+        (CALLING_3, {"cycles": 128}, silence), (CALLING_3, {"cycles": 7}, single(CS5)),
+        (ANSWERING, {}, alphas), (ANSWERING, {}, silence), (IDENTIFYING, {}, silence),
+        (RECEIVING, {}, silence), (SENDING, {}, silence), (TURNING, {}, silence),
+        (OPENING, {}, silence), (LOST, {}, silence), (STANDBY, {}, silence)]
+    for place, fields, burst in ways:
+        for count in (0, 31):
+            for other_end in ("nobody", identity(draw), identity(draw, 7),
+                              mode_a.Barred(identity(draw, 7))):
+                for role in range(2):
+                    for number in range(2):
+                        yield record(draw, role, programs.PLACES.index(place), number,
+                                     count, burst, good_offer(draw),
+                                     other_end=other_end, held=(71, 86, 71)
+                                     if place == SENDING else None,
+                                     own_seven=identity(draw, 7), **fields)
+    # The fifth wrong check-sum, and one that is wrong in the same way twice.
+    for stage in (1, 2, 3):
+        for other_end in ("nobody", identity(draw), identity(draw, 7),
+                          mode_a.Barred(identity(draw, 7))):
+            for wrong in (1, 4, 255):
+                seven = identity(draw, 7)
+                for last_wrong in (0, wrong_letters(stage, seven, 0)[0]):
+                    yield record(draw, 0, programs.PLACES.index(IDENTIFYING), 1, 0,
+                                 single(wrong_letters(stage, seven, 0)[0]),
+                                 good_offer(draw), other_end=other_end, stage=stage,
+                                 wrong=wrong, last_wrong=last_wrong, seven=seven,
+                                 own_seven=identity(draw, 7))
+
+
+def other_letters(draw, burst, chance):
+    """Letters of table 3a taken for others, each with the same chance."""
+    return tuple(draw.choice(IDENTITY_SIGNALS)
+                 if word in IDENTITY_SIGNALS and draw.random() < chance else word
+                 for word in burst)
+
+
+def identified_circuit_records(draw, most, chance, letters):
+    """Steps of a caller and the station that it calls by seven signals, in turn,
+    from Stand-by on: the call, identification, the circuit, its end, and the next
+    call, over a path with damage, where letters are taken for others too.  One that
+    is Lost begins anew at Stand-by; so does what has gone astray."""
+    names = both_identities(draw), both_identities(draw)
+    hearer, sender = (mode_a.standing_by_both(*name) for name in names)
+    burst = mode_a.SILENCE
+    for number in range(most):
+        if number % 2 == 0:
+            called = names[1][1]
+            if draw.random() < 0.1:
+                called = draw.choice((names[1][0], identity(draw, 7)))
+            offer = caller_offer(draw, hearer, called)
+        else:
+            offer = offer_of_sort(draw, draw.choice((NO_OFFER, TEXT, TEXT, OVER)))
+        burst = tuple(damaged(draw, burst, chance, MUTILATED))
+        burst = other_letters(draw, burst, letters)
+        yield written_out(draw, hearer, burst, offer)
+        answer = mode_a.step(hearer, burst, offered(offer))
+        station = answer.station
+        if station.place == LOST:
+            station = mode_a.standing_by_both(*names[number % 2])
+        hearer, sender, burst = sender, station, answer.burst
+
+
+def unheard_of_seven_records(draw, most):
+    """Steps of a caller by seven signals whom nobody hears: 128 call bursts, the
+    wait of 128 steps, and the next call."""
+    own = both_identities(draw)
+    station = mode_a.standing_by_both(*own)
+    called = identity(draw, 7)
+    for _ in range(most):
+        burst = spoilt(draw, mode_a.SILENCE)
+        if draw.random() < 0.1:
+            burst = single(draw.choice((CS1, CS2, RQ)))
+        offer = caller_offer(draw, station, called)
+        yield written_out(draw, station, burst, offer)
+        station = mode_a.step(station, burst, offered(offer)).station
+
+
+def crossed_of_seven_records(draw, most):
+    """Steps of one station, each from where the step before left it: the call blocks
+    of both identities in any order, with anything between them; the answers to a
+    call of its own in any order."""
+    station = mode_a.standing_by_both(*both_identities(draw))
+    for _ in range(most):
+        sort = NO_OFFER
+        if station.place == STANDBY:
+            ours = near_own_blocks_of_seven(station.own_seven)
+            burst = draw.choice(ours[:3] * 5 + near_own_blocks(station.own)[:2]
+                                + [draw.choice(ours), any_burst(draw)])
+            if draw.random() < 0.05:
+                sort = draw.choice(GOOD_SORTS)
+        elif station.place == ANSWERING:
+            gathered = near_identification(draw, station.seven)
+            burst = draw.choice(gathered[:6] * 3 + gathered)
+            sort = draw.choice(GOOD_SORTS)
+        else:
+            burst = draw.choice((helpful_burst(draw, station), any_burst(draw),
+                                 single(draw.choice(IDENTITY_SIGNALS))))
+            sort = draw.choice(GOOD_SORTS)
+        offer = offer_of_sort(draw, sort)
+        yield written_out(draw, station, burst, offer)
+        station = mode_a.step(station, burst, offered(offer)).station
+        if station.place not in (STANDBY, CALLING_3, IDENTIFYING, ANSWERING):
+            # Back to where calls are heard, by a circuit that ends at once.
+            station = mode_a.at(station, STANDBY, cycles=draw.choice((0, 0, 3)))
+
+
+def all_identification_records(draw):
+    yield from standby_of_seven_records(draw)
+    yield from refusal_of_seven_records(draw)
+    yield from calling_three_records(draw)
+    yield from identifying_records(draw)
+    yield from answering_records(draw)
+    yield from left_for_standby_records(draw)
+    for chance, letters in ((0, 0), (0, 0.1), (0.02, 0), (0.05, 0.05), (0.1, 0),
+                            (0.1, 0.2), (0.2, 0), (0.3, 0.1)):
+        for _ in range(3):
+            yield from identified_circuit_records(draw, 120, chance, letters)
+    for _ in range(2):
+        yield from unheard_of_seven_records(draw, 270)
+    for _ in range(40):
+        yield from crossed_of_seven_records(draw, 40)
+
+
 def steps_records(draw):
     """All the records but those of calls, at least 200,000."""
     yield from long_records(draw)
     # Each place with each kind of burst, each sort of offer, each count.
-    for _ in range(9):
-        for place in range(9):
-            for kind in range(12):
+    for _ in range(4):
+        for place in range(12):
+            for kind in KINDS_OF_BURST:
                 for sort in SORTS:
                     for role in range(2):
                         for number in range(2):
@@ -1492,7 +2057,7 @@ def steps_records(draw):
                                              burst_of_kind(draw, kind),
                                              offer_of_sort(draw, sort))
     # Each of the 256 words at each place in the burst, at each place.
-    for place in range(9):
+    for place in range(12):
         for word in WORDS:
             for index in range(3):
                 for role in range(2):
@@ -1516,7 +2081,7 @@ def steps_records(draw):
                                          offer_of_sort(draw, sort),
                                          case=case, plus=plus)
     # Each count and each total with each place.
-    for place in range(9):
+    for place in range(12):
         for value in WORDS:
             yield record(draw, 0, place, 1, value, any_burst(draw),
                          NOTHING_OFFERED)
@@ -1527,10 +2092,10 @@ def steps_records(draw):
         for index in range(3):
             words = draw.choices(IN_BLOCK, k=3)
             words[index] = word
-            text_offer = (1,) + tuple(words) + mode_a.NO_IDENTITY
+            text_offer = (1,) + tuple(words) + mode_a.NO_SEVEN
             yield record(draw, 0, 0, 1, 0, single(CS2), NOTHING_OFFERED,
                          held=words)
-            yield record(draw, 0, draw.randrange(9), 1, 0, single(CS1),
+            yield record(draw, 0, draw.randrange(12), 1, 0, single(CS1),
                          text_offer, held=words)
             yield record(draw, 1, 2, 0, 0, single(CS2), text_offer)
     # Records of any bytes, with the count below 32 in half of them.
@@ -1540,13 +2105,15 @@ def steps_records(draw):
             any_bytes[7] %= 32
             any_bytes[3:6] = bytes(draw.choices(IN_BLOCK, k=3))
             any_bytes[28:32] = bytes(draw.choices(IDENTITY_SIGNALS, k=4))
+            any_bytes[32:39] = bytes(draw.choices(IDENTITY_SIGNALS, k=7))
+            any_bytes[42:45] = bytes(draw.choices(IDENTITY_SIGNALS, k=3))
         yield bytes(any_bytes)
 
 
 def stepped_in(size):
     """Records of which the lines come to `size` bytes."""
     # A printed word over 99 takes a byte more; there are three.
-    accepted = bytes([1, 4, 1, 0, 0, 0, 0, 0, 0, 0, 71, 71, 71] + [0] * 19)
+    accepted = bytes([1, 4, 1, 0, 0, 0, 0, 0, 0, 0, 71, 71, 71] + [0] * 47)
     small = len(programs.steps(accepted)[0])
     number = size // small
     each, more = divmod(size - number * small, number)
@@ -1561,18 +2128,20 @@ def stepped_in(size):
 
 def steps_cases(draw):
     calls = list(all_call_records(draw))
+    identification = list(all_identification_records(draw))
     records = list(steps_records(draw))
     out = [quickly("empty", b""), slowly("8 records", b"".join(records[:8])),
            in_pieces("200 records", b"".join(records[:200])),
-           quickly("calls", b"".join(calls))]
+           quickly("calls", b"".join(calls)),
+           quickly("identification", b"".join(identification))]
     out.extend(with_words(records[0]))
     for size in OUTPUT_SIZES:
         out.append(from_file("%d bytes written" % size, stepped_in(size)))
     for size in (BLOCK - 1, BLOCK, BLOCK + 1, 2 * BLOCK):
         out.append(from_file("%d bytes of records" % size,
                              b"".join(records[:300])[:size]))
-    # 17 is the length up to the offer's text.
-    for length in (1, 17, 31, 33, 63, 64, 65):
+    # 17 is the length up to the offer's text, 56 that of what is looked at.
+    for length in (1, 17, 32, 56, 59, 61, 119, 120, 121):
         out.append(quickly("cut to %d bytes" % length,
                            b"".join(records[:3])[:length]))
     for start in range(0, len(records), STEPS_IN_A_CASE):
@@ -1939,7 +2508,24 @@ def identity_records(draw):
         yield b"I" + bytes(draw.choices(WORDS, k=4))
 
 
-KINDS = b"EPSMRI"
+def both_identities_records(draw):
+    """J records (02, T-05)."""
+    # Each word at each place, and with others outside behind it.
+    for word in WORDS:
+        for index in range(11):
+            words = list(identity(draw) + identity(draw, 7))
+            words[index] = word
+            yield b"J" + bytes(words)
+            for second in draw.sample(range(index + 1, 11), draw.randint(0, 10 - index)):
+                words[second] = draw.choice(NEARLY_IN_IDENTITY)
+            yield b"J" + bytes(words)
+    for _ in range(200):
+        yield b"J" + bytes(identity(draw) + identity(draw, 7))
+        yield b"J" + bytes(outside(draw, identity(draw)) + outside(draw, identity(draw, 7)))
+        yield b"J" + bytes(draw.choices(WORDS, k=11))
+
+
+KINDS = b"EPSMRIJ"
 
 
 def hostile_tails(draw):
@@ -1971,7 +2557,7 @@ def hostile_tails(draw):
         yield "length %d" % length, whole + bytes([71]) * length
     for whole in (slot_record(5, [71] * 4), b"M" + bytes([71]),
                   receive_record(draw, run=3, last=1, word=ALPHA),
-                  b"I" + bytes([71] * 4)):
+                  b"I" + bytes([71] * 4), b"J" + bytes([71] * 11)):
         for length in range(1, len(whole)):
             yield "record cut to %d" % length, whole[:length]
 
@@ -1984,7 +2570,7 @@ def call_length(data, first):
         return 6 + int.from_bytes(data[first + 4:first + 6], "little")
     if kind == b"S":
         return 7 + int.from_bytes(data[first + 5:first + 7], "little")
-    return {b"M": 2, b"R": 11, b"I": 5}.get(kind, 0)
+    return {b"M": 2, b"R": 11, b"I": 5, b"J": 12}.get(kind, 0)
 
 
 def call_records(data):
@@ -2004,7 +2590,8 @@ def calls_at_borders():
     record; bad records that begin or are cut there."""
     out = []
     for whole in (text_record(b"E", 0, 5, b"A1A"), slot_record(40, [71, 86]),
-                  b"I" + bytes([71, 86, 71, 101])):
+                  b"I" + bytes([71, 86, 71, 101]),
+                  b"J" + bytes([71, 86, 71, 86, 71, 86, 71, 86, 71, 86, 101])):
         data = b""
         for number in range(1, len(whole) + 2):
             first = BLOCK * number - number
@@ -2034,7 +2621,8 @@ def group_calls():
 def calls_cases(draw):
     records = (list(encode_records(draw)) + list(print_records(draw))
                + list(slot_records(draw)) + list(meaning_records())
-               + list(receive_records(draw)) + list(identity_records(draw)))
+               + list(receive_records(draw)) + list(identity_records(draw))
+               + list(both_identities_records(draw)))
     draw.shuffle(records)
     short = [one for one in records if len(one) < 40]
     out = [quickly("empty", b""), slowly("12 records", b"".join(short[:12])),
@@ -2090,7 +2678,7 @@ def spoken(words, begun):
 SPOKEN = [spoken([71, 101, 86, 116], 40), spoken([86], ONE_RX - 3)]
 
 
-STEP_RECORD = bytes([1, 4, 1, 0, 0, 0, 0, 31, 0, 0, 116, 86, 51] + [0] * 19)
+STEP_RECORD = bytes([1, 4, 1, 0, 0, 0, 0, 31, 0, 0, 116, 86, 51] + [0] * 47)
 
 CONVERSATIONS = {
     # the header comes before anything is read
@@ -2100,7 +2688,7 @@ CONVERSATIONS = {
     "calls": [[b"MV", text_record(b"E", 0, 4, b"A1"), slot_record(36, [86]),
                b"R" + bytes([0, 3, 1, 0, 0, 0, 0, 0, 0, 15]),
                b"R" + bytes([1, 0, 0, 71, 15, 15, 1, 1, 3, 71]), b"I" + bytes([71] * 4),
-               b"M", b"eMA", b"?"]],
+               b"J" + bytes([71] * 11), b"M", b"eMA", b"?"]],
     "receive": SPOKEN + [SPOKEN[0] + [b"256 "]],
     "encode": [[b"A" * (text.MOST_CHARACTERS + 1)]],
     "print": [[b"71 ", b"7x "], [b"71 " * (text.MOST_SIGNALS + 1)]],

@@ -178,31 +178,57 @@ def receive(data):
     return write_words(printed), told
 
 
-# --- steps: records of 32 bytes, one step of a station written out ---
+# --- steps: records of 60 bytes, one step of a station written out ---
 
-RECORD = 32
+RECORD = 60
 PLACES = (mode_a.SENDING, mode_a.TURNING, mode_a.OPENING, mode_a.ENDING,
           mode_a.RECEIVING, mode_a.ASKING, mode_a.STANDBY, mode_a.LOST,
-          mode_a.CALLING)
+          mode_a.CALLING, mode_a.CALLING_3, mode_a.IDENTIFYING, mode_a.ANSWERING)
 NUMBERED = (mode_a.SENDING, mode_a.TURNING, mode_a.ENDING, mode_a.RECEIVING)
-COUNTS_CYCLES = (mode_a.STANDBY, mode_a.CALLING)
-OFFERS = ("nothing", "text", "over", "end", "call")
+COUNTS_CYCLES = (mode_a.STANDBY, mode_a.CALLING, mode_a.CALLING_3)
+KEEPS_LAST = (mode_a.STANDBY, mode_a.CALLING)
+HAS_STAGES = (mode_a.IDENTIFYING, mode_a.ANSWERING)
+HAS_SEVEN = (mode_a.CALLING_3, mode_a.IDENTIFYING, mode_a.ANSWERING)
+OFFERS = ("nothing", "text", "over", "end", "call", "call of seven")
 
 
 def case_of(byte):
     return "letters" if byte % 2 == 0 else "figures"
 
 
+def read_other_end(record):
+    """Who is at the other end."""
+    kind = record[23] % 4
+    seven = tuple(record[24:28] + record[39:42])
+    if kind == 0:
+        return None
+    if kind == 1:
+        return seven[:4]
+    return seven if kind == 2 else mode_a.Barred(seven)
+
+
+def read_offer(record):
+    kind = OFFERS[record[13] % 6]
+    words = record[14:17]
+    if kind == "call":
+        words = record[28:32]
+    if kind == "call of seven":
+        words = record[28:32] + record[42:45]
+    return mode_a.Offer(kind, tuple(words))
+
+
 def read_step(record):
     """The station, burst and offer of a record.  A field that a place does not
     carry is ignored."""
-    place = PLACES[record[1] % 9]
+    place = PLACES[record[1] % 12]
     number = 0
     held = mode_a.NO_BLOCK
     total = 0
     cycles = last = 0
     called = mode_a.NO_IDENTITY
-    other_end = None
+    blocks = ()
+    stage = wrong = last_wrong = 0
+    seven = mode_a.NO_SEVEN
     if place in NUMBERED:
         number = 1 if record[2] % 2 == 1 else 2
     if place == mode_a.SENDING:
@@ -211,20 +237,38 @@ def read_step(record):
         total = record[6]
     if place in COUNTS_CYCLES:
         cycles = record[17]
+    if place in KEEPS_LAST:
         last = record[18] % 3
     if place == mode_a.CALLING:
         called = tuple(record[3:7])
-    if record[23] % 2 == 1:
-        other_end = tuple(record[24:28])
+    if place == mode_a.STANDBY:
+        blocks = mode_a.RUNS_OF_BLOCKS[record[45] % 5]
+    if place in HAS_STAGES:
+        stage = record[46] % 4 + 1
+    if place == mode_a.IDENTIFYING:
+        wrong = record[47]
+        last_wrong = record[48]
+    if place in HAS_SEVEN:
+        seven = tuple(record[49:56])
     station = mode_a.Station(
         master=record[0] % 2 == 0, place=place, number=number, held=held,
         total=total, count=record[7], case=case_of(record[8]),
-        plus=record[9] % 2 == 1, own=tuple(record[19:23]), other_end=other_end,
-        cycles=cycles, last=last, called=called)
-    burst = tuple(record[10:13])
-    kind = OFFERS[record[13] % 5]
-    words = record[28:32] if kind == "call" else record[14:17]
-    return station, burst, mode_a.Offer(kind, tuple(words))
+        plus=record[9] % 2 == 1, own=tuple(record[19:23]),
+        other_end=read_other_end(record), cycles=cycles, last=last, called=called,
+        own_seven=tuple(record[32:39]), blocks=blocks, stage=stage, wrong=wrong,
+        last_wrong=last_wrong, seven=seven)
+    return station, tuple(record[10:13]), read_offer(record)
+
+
+def other_end_fields(other_end):
+    """Who it is, by name, and the signals of that identity, seven of them."""
+    if other_end is None:
+        return "nobody", mode_a.NO_SEVEN
+    if isinstance(other_end, mode_a.Barred):
+        return "barred", other_end.identity
+    if len(other_end) == 7:
+        return "seven", other_end
+    return "four", other_end + (0, 0, 0)
 
 
 def step_line(answer):
@@ -233,14 +277,16 @@ def step_line(answer):
     s = answer.station
     printed = answer.printed + (0,) * (3 - len(answer.printed))
     role = "master" if s.master else "slave"
-    other_end = ("nobody",) + mode_a.NO_IDENTITY
-    if s.other_end is not None:
-        other_end = ("four",) + s.other_end
-    return ("%s %d %d %d %d %d %d %s %d | %d %d %d | %d %d %d | %d "
-            "| %s %d %d %d %d %d %d %s %d %d %d %d\n" % (
-                (s.place, s.number) + s.held + (s.total, s.count, s.case, s.plus)
-                + answer.burst + printed + (answer.taken,)
-                + (role, s.cycles, s.last) + s.called + other_end))
+    known, signals = other_end_fields(s.other_end)
+    parts = (
+        (s.place, s.number) + s.held + (s.total, s.count, s.case, int(s.plus)),
+        answer.burst,
+        printed,
+        (int(answer.taken),),
+        (role, s.cycles, s.last) + s.called + (known,) + signals[:4],
+        (mode_a.RUNS_OF_BLOCKS.index(s.blocks), s.stage, s.wrong, s.last_wrong)
+        + s.seven + signals[4:])
+    return " | ".join(" ".join(map(str, part)) for part in parts) + "\n"
 
 
 def steps(data):
@@ -396,6 +442,16 @@ def standing_by_call(data, place):
     return line, place + 4
 
 
+def standing_by_both_call(data, place):
+    """A `J` record: likewise, with its identities of four and of seven signals."""
+    words = cut(data, place, 11)
+    answer = mode_a.standing_by_both(words[:4], words[4:])
+    line = "ok\n"
+    if isinstance(answer, Refused):
+        line = "refused %d %d\n" % (answer.number, answer.beside)
+    return line, place + 11
+
+
 def calls(data):
     lines = []
     told = None
@@ -415,6 +471,8 @@ def calls(data):
                 line, behind = receive_call(data, place + 1)
             elif kind == b"I":
                 line, behind = standing_by_call(data, place + 1)
+            elif kind == b"J":
+                line, behind = standing_by_both_call(data, place + 1)
             else:
                 raise BadRecord("no such kind")
             lines.append(line)

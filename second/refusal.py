@@ -2,7 +2,8 @@
 
 from collections import namedtuple
 
-# number: 1 to 7 of 01's table, 8 of 02, T-02.  beside: 01's "Answer beside it".
+# number: 1 to 7 of 01's table, 8 of 02, T-02 and T-05.  beside: 01's "Answer
+# beside it".
 #
 #   1  encoding: a byte without a signal                 index of the first
 #   2  encoding, printing: lent room too short           room needed
@@ -15,6 +16,8 @@ from collections import namedtuple
 #
 # Of 1: a to z are taken as the capitals (02, T-01), so they are not refused.
 # Of 4: a receiver that has to wait for more than three words too (02, T-03).
+# Of 8: the index is that in all the identities that are judged together, one
+# behind another (02, T-05: "8 also for a self-identity").
 #
 # Each call tests for them in 01's order: "encoding 5, 1, 2; printing 7, 3, 2;
 # mode A step 4, 3; mode B slot 7, 3, 6".  The step tests for 8 before these (02,

@@ -1,4 +1,4 @@
-"""The seven-unit code (paper 01, "The code"; paper 001, tables 1, 2 and 3a).
+"""The seven-unit code (paper 01, "The code"; paper 001, tables 1, 2, 3a and 3b).
 
 In quotations from 01, here and in the other modules, the Greek letters are
 spelt out.
@@ -81,6 +81,10 @@ RQ = word_of(SERVICE_ROWS[2])
 CS1 = traffic_word(12)
 CS2 = BLANK
 CS3 = traffic_word(14)
+# 001, table 2: the two that only three-block calls know (02, T-05).  They are the
+# words of G and H.
+CS4 = traffic_word(7)
+CS5 = traffic_word(8)
 
 # In figures case, Z is + and B is ?.
 PLUS = traffic_word(26)
@@ -126,3 +130,32 @@ IDENTITY_SIGNALS = [word_of(units) for letter, _, units in TRAFFIC_ROWS
 
 def is_identity_signal(word):
     return word in IDENTITY_SIGNALS
+
+
+# 001, table 3a: the number of each letter.
+IDENTITY_NUMBERS = {
+    "A": 19, "B": 11, "C": 6, "D": 18, "E": 13, "F": 8, "I": 15, "K": 3, "M": 4,
+    "O": 14, "P": 5, "Q": 2, "R": 16, "S": 9, "T": 10, "U": 12, "V": 0, "X": 1,
+    "Y": 7, "Z": 17}
+
+# 001, table 3b: the letters of the check-sum numbers 0 to 19.
+CHECK_SUM_LETTERS = "VXQKMPCYFSTBUEOIRZDA"
+
+WORD_OF_LETTER = {letter: word_of(units) for letter, _, units in TRAFFIC_ROWS}
+NUMBER_OF_WORD = {WORD_OF_LETTER[letter]: number
+                  for letter, number in IDENTITY_NUMBERS.items()}
+CHECK_SUM_SIGNALS = [WORD_OF_LETTER[letter] for letter in CHECK_SUM_LETTERS]
+
+
+def is_check_sum_signal(word):
+    return word in CHECK_SUM_SIGNALS
+
+
+def check_sum(identity, number):
+    """Check-sum signal 1, 2 or 3 of seven identity signals.  001, 2.5: "The three
+    numbers N1, N2 and N3 are added and the sum is translated into one check-sum
+    number CN1 using modulo 20-addition", and so N3, N4, N5 and N5, N6, N7.  A word
+    outside table 3a counts 0."""
+    first = 2 * (number - 1)
+    added = sum(NUMBER_OF_WORD.get(word, 0) for word in identity[first:first + 3])
+    return CHECK_SUM_SIGNALS[added % 20]

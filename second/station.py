@@ -1,46 +1,70 @@
-"""One station of mode A (paper 01, "The station, mode A"; 001, 3.3 to 3.7), and
-its calls (paper 02, T-02; 001, 3.5)."""
+"""One station of mode A (paper 01, "The station, mode A"; 001, 3.3 to 3.7), its
+calls (paper 02, T-02 and T-05; 001, 3.5) and identification (02, T-05; 001,
+3.6)."""
 
 from collections import namedtuple
 
 from refusal import Refused
-from signals import (ALPHA, BETA, CS1, CS2, CS3, FIGURES, LETTERS, PLUS, QUERY,
-                     RQ, is_identity_signal, is_traffic)
+from signals import (ALPHA, BETA, CS1, CS2, CS3, CS4, CS5, FIGURES, LETTERS, PLUS,
+                     QUERY, RQ, check_sum, is_check_sum_signal, is_identity_signal,
+                     is_traffic)
 
-# An identity is four words.  A station without one has four zeros.
+# An identity is four words, or seven.  A station without one has zeros.
 NO_IDENTITY = (0, 0, 0, 0)
+NO_SEVEN = (0, 0, 0, 0, 0, 0, 0)
 
-# A station.  `count`, `case`, `plus`, `own` and `other_end` are carried at every
-# place:
+# Who is at the other end, where that is nobody: the seven signals of a three-block
+# call that failed, and that is not to be placed again at once.
+Barred = namedtuple("Barred", "identity")
+
+# A station.  `count`, `case`, `plus`, `own`, `own_seven` and `other_end` are
+# carried at every place:
 #   master     True for a master, False for a slave
-#   place      one of the nine below
+#   place      one of the twelve below
 #   number     1 or 2: of the block held (Sending), of the last block (Turning),
-#              under which end was taken (Ending), awaited (Receiving); else 0
+#              under which the end is sent (Ending), awaited (Receiving); else 0
 #   held       the block held at Sending; else three zeros
 #   total      how often alpha alpha alpha has been sent, at Ending; else 0
 #   count      the repetition count
 #   case       "letters" or "figures": the case of the direction this station
 #              receives.  What it sends itself does not move it.
 #   plus       True when a + was heard that a ? would make an over
-#   own        its own identity, which no step changes
-#   other_end  who is at the other end: the identity called, or None for nobody
-#   cycles     at Stand-by the steps left to wait, at Calling the call bursts
-#              sent; else 0
-#   last       at Stand-by which of its own call blocks the last step heard, at
-#              Calling which of CS1 and CS2: 1 or 2, 0 for neither; else 0
+#   own        its own identity of four signals, which no step changes
+#   other_end  who is at the other end: the four signals called, the seven that
+#              identification has told, those of a call that is Barred, or None
+#              for nobody
+#   cycles     at Stand-by the steps left to wait, at Calling of either kind the
+#              call bursts sent; else 0
+#   last       at Stand-by which of its own two call blocks the last step heard,
+#              at Calling which of CS1 and CS2: 1 or 2, 0 for neither; else 0
 #   called     the identity called, at Calling; else four zeros
+#   own_seven  its own identity of seven signals, which no step changes
+#   blocks     at Stand-by the numbers of its own three call blocks heard in
+#              succession up to the last step, as in RUNS_OF_BLOCKS; else none
+#   stage      1 to 4 at Identifying and Answering; else 0
+#   wrong      at Identifying how often a wrong check-sum has had the block of this
+#              stage sent again; else 0
+#   last_wrong the last wrong check-sum, at Identifying; else 0
+#   seven      the identity called, at Calling with three blocks and Identifying;
+#              the signals gathered so far, at Answering; else seven zeros
 Station = namedtuple("Station",
                      "master place number held total count case plus "
-                     "own other_end cycles last called",
-                     defaults=(NO_IDENTITY, None, 0, 0, NO_IDENTITY))
+                     "own other_end cycles last called "
+                     "own_seven blocks stage wrong last_wrong seven",
+                     defaults=(NO_IDENTITY, None, 0, 0, NO_IDENTITY,
+                               NO_SEVEN, (), 0, 0, 0, NO_SEVEN))
 
 SENDING, TURNING, OPENING, ENDING = "sending", "turning", "opening", "ending"
 RECEIVING, ASKING, STANDBY, LOST = "receiving", "asking", "standby", "lost"
 CALLING = "calling"
+# 02, T-05: Calling with three blocks, the master that identifies itself, and the
+# slave that answers it.
+CALLING_3, IDENTIFYING, ANSWERING = "calling3", "identifying", "answering"
 
-# An offer: kind is "nothing", "text", "over", "end" or "call"; words matter for
-# text (three) and for a call (the four of the identity).
+# An offer: kind is "nothing", "text", "over", "end", "call" or "call of seven";
+# words matter for text (three) and for a call (the four or seven of the identity).
 Offer = namedtuple("Offer", "kind words")
+CALLS = ("call", "call of seven")
 NOTHING = Offer("nothing", (0, 0, 0))
 
 # One step's answer: "the new station, a burst to send, up to three printed
@@ -67,6 +91,13 @@ MOST_ENDS = 4
 # 02, T-02: "for at most 128 cycles", "waits 128 cycles in stand-by"
 MOST_CALL_BURSTS = 128
 CYCLES_TO_WAIT = 128
+# 02, T-05: "A block goes out again no more than four times for wrong check-sums"
+MOST_WRONG = 4
+
+# 001, 3.5.5: "the three call blocks in succession", in these orders; and what may
+# have been heard of them before the last.
+WHOLE_CALLS = ((1, 2, 3), (2, 3, 1))
+RUNS_OF_BLOCKS = ((), (1,), (1, 2), (2,), (2, 3))
 
 
 def single(word):
@@ -102,6 +133,28 @@ def call_block(identity, number):
     return (identity[2], identity[3], RQ)
 
 
+def call_block_of_seven(identity, number):
+    """001, 3.5.3, "in the case of a 7-signal call identity": call block 1 as above,
+    in call block 2 ""signal repetition", and the third and fourth identification
+    signals", in call block 3 "the last three identification signals"."""
+    if number == 1:
+        return (identity[0], RQ, identity[1])
+    if number == 2:
+        return (RQ, identity[2], identity[3])
+    return (identity[4], identity[5], identity[6])
+
+
+def identification_block(identity, stage):
+    """02, T-05: "Blocks: Y1 alpha Y2, alpha Y3 Y4, Y5 Y6 Y7, then RQ RQ RQ"."""
+    if stage == 1:
+        return (identity[0], ALPHA, identity[1])
+    if stage == 2:
+        return (ALPHA, identity[2], identity[3])
+    if stage == 3:
+        return (identity[4], identity[5], identity[6])
+    return THREE_RQ
+
+
 def fresh_master():
     """01: "A fresh master is Opening", with "count 0, letters case and no +
     heard"."""
@@ -125,6 +178,16 @@ def standing_by(identity):
                    own=tuple(identity))
 
 
+def standing_by_both(identity, seven):
+    """The same with an identity of seven signals beside that of four."""
+    # 02, T-05: "Refusals: 8 also for a self-identity".  The index is that in the
+    # four and then the seven.
+    index = first_outside(tuple(identity) + tuple(seven))
+    if index is not None:
+        return Refused(8, index)
+    return standing_by(identity)._replace(own_seven=tuple(seven))
+
+
 # --- Refusals 8, 4 and 3, judged at every place and whatever is heard ---
 
 def refusal_of(station, offer):
@@ -132,6 +195,12 @@ def refusal_of(station, offer):
     # at the call"
     if offer.kind == "call":
         index = first_outside(offer.words)
+        if index is not None:
+            return Refused(8, index)
+    # 02, T-05: "8 also for a self-identity".  A three-block call tells it, so it is
+    # judged there: the seven called and then the seven of its own.
+    if offer.kind == "call of seven":
+        index = first_outside(tuple(offer.words) + station.own_seven)
         if index is not None:
             return Refused(8, index)
     # "Order: ... mode A step 4, 3"
@@ -153,19 +222,26 @@ def refusal_of(station, offer):
 # --- The rows, one for each place ---
 
 def at(station, place, number=0, held=NO_BLOCK, total=0, cycles=0, last=0,
-       called=NO_IDENTITY):
+       called=NO_IDENTITY, stage=0, wrong=0, last_wrong=0, seven=NO_SEVEN):
     """The station moved to a place, with what that place carries.  With the move
-    to Stand-by nobody is at the other end any more."""
-    other_end = None if place == STANDBY else station.other_end
+    to Stand-by nobody is at the other end any more; an identity that is barred
+    stays so, and has to wait from there on (001, 3.5.4, 3.5.7 and 3.5.8)."""
+    other_end = station.other_end
+    if place == STANDBY:
+        if isinstance(other_end, Barred):
+            cycles = CYCLES_TO_WAIT
+        else:
+            other_end = None
     return Station(station.master, place, number, held, total, station.count,
                    station.case, station.plus, station.own, other_end, cycles,
-                   last, called)
+                   last, called, station.own_seven, (), stage, wrong, last_wrong,
+                   seven)
 
 
 def take(station, offer, number):
     """01: "Text gives that block, nothing gives beta beta beta, over gives
-    figures + ?, end gives alpha alpha alpha and place Ending".  A call, which
-    only Stand-by takes, gives beta beta beta too and is not taken."""
+    figures + ?, end gives alpha alpha alpha and place Ending".  A call of either
+    kind, which only Stand-by takes, gives beta beta beta too and is not taken."""
     if offer.kind == "end":
         ending = at(station, ENDING, number, total=1)
         return Answer(ending, ALPHAS, (), True)
@@ -176,7 +252,7 @@ def take(station, offer, number):
     else:
         block = BETAS
     return Answer(at(station, SENDING, number, held=block), block, (),
-                  offer.kind != "call")
+                  offer.kind not in CALLS)
 
 
 def sending(station, burst, offer):
@@ -323,6 +399,25 @@ def own_call_block(station, burst):
     return 0
 
 
+def own_call_block_of_seven(station, burst):
+    """Likewise, of its own three call blocks of seven signals: 1, 2 or 3."""
+    if first_outside(station.own_seven) is None:
+        for number in (1, 2, 3):
+            if burst == call_block_of_seven(station.own_seven, number):
+                return number
+    return 0
+
+
+def blocks_in_succession(station, burst):
+    """The call blocks of seven signals heard in successive steps, this burst the
+    last of them: the longest run that one of the two orders begins with."""
+    heard = station.blocks + (own_call_block_of_seven(station, burst),)
+    for first in range(len(heard)):
+        if heard[first:] in RUNS_OF_BLOCKS + WHOLE_CALLS:
+            return heard[first:]
+    return ()
+
+
 def begin_call(station):
     """What is forgotten where a call is answered or placed: a circuit starts
     with letters case and no + heard, and nobody is at the other end yet."""
@@ -337,6 +432,14 @@ def standby(station, burst, offer):
         # order, and while it waits too; the offer is not taken.
         answering = begin_call(at(station, RECEIVING, 1)._replace(master=False))
         return Row(Answer(answering, single(CS1), (), False), False)
+    blocks = blocks_in_succession(station, burst)
+    if blocks in WHOLE_CALLS:
+        # 001, 3.5.5: "following the reception of the three call blocks in
+        # succession after which it sends "control signal 4"".  While it waits too;
+        # the offer is not taken.
+        answering_now = begin_call(at(station, ANSWERING, stage=1)
+                                   ._replace(master=False))
+        return Row(Answer(answering_now, single(CS4), (), False), False)
     if offer.kind == "call" and station.cycles == 0:
         # "the master sends call blocks 1 and 2 in turn": the first goes out
         # here, and the offer is taken.
@@ -344,10 +447,19 @@ def standby(station, burst, offer):
         calling_now = begin_call(at(station, CALLING, cycles=1, called=identity)
                                  ._replace(master=True))
         return Row(Answer(calling_now, call_block(identity, 1), (), True), False)
+    if offer.kind == "call of seven":
+        # 001, 3.5.4: "waits for a time of at least 128 cycles before sending the
+        # same "call signal" again".  Another one may be sent at once.
+        identity = tuple(offer.words)
+        if station.cycles == 0 or station.other_end != Barred(identity):
+            calling_now = begin_call(at(station, CALLING_3, cycles=1, seven=identity)
+                                     ._replace(master=True))
+            return Row(Answer(calling_now, call_block_of_seven(identity, 1), (),
+                              True), False)
     # Silent, "no offer taken".  One step less is left to wait.
     left = max(station.cycles - 1, 0)
-    return Row(Answer(station._replace(cycles=left, last=heard), SILENCE, (),
-                      False), False)
+    return Row(Answer(station._replace(cycles=left, last=heard, blocks=blocks),
+                      SILENCE, (), False), False)
 
 
 def lost(station, burst, offer):
@@ -381,6 +493,130 @@ def calling(station, burst, offer):
     return Row(Answer(again, block, (), False), False)
 
 
+def calling_three(station, burst, offer):
+    # It reads the first word.  CS1 and CS2 answer calls of four signals alone.
+    first = burst[0]
+    if first == CS4:
+        # 001, 3.6.1: "On receipt of "control signal 4" the calling station changes
+        # to the ISS condition and starts the identification procedure."
+        identifying_now = at(station, IDENTIFYING, stage=1, seven=station.seven)
+        return Row(Answer(identifying_now,
+                          identification_block(station.own_seven, 1), (), False),
+                   False)
+    barred = station._replace(other_end=Barred(station.seven))
+    if first == CS5:
+        # 001, 3.5.8: "starts the "end-of-communication" procedure", and waits when
+        # that is over.  CS1 confirms it.
+        return Row(Answer(at(barred, ENDING, 2, total=1), ALPHAS, (), False), False)
+    if first == CS3 or station.cycles >= MOST_CALL_BURSTS:
+        # 001, 3.5.7 and 3.5.4.
+        return Row(Answer(at(barred, STANDBY), SILENCE, (), False), False)
+    # The three blocks in turn.
+    block = call_block_of_seven(station.seven, station.cycles % 3 + 1)
+    again = at(station, CALLING_3, cycles=station.cycles + 1, seven=station.seven)
+    return Row(Answer(again, block, (), False), False)
+
+
+def identifying(station, burst, offer):
+    # It reads the first word.
+    first = burst[0]
+    stage = station.stage
+    block = identification_block(station.own_seven, stage)
+    if stage == 4:
+        known = station._replace(other_end=station.seven)
+        if first == CS1:
+            # 001, 3.6.10: "ends the identification cycle and starts the traffic
+            # flow by transmitting "information block 1"".  As at Opening.
+            return Row(take(known, offer, 1), False)
+        if first == CS3:
+            # 001, 3.6.11: "starts the traffic flow with the change-over procedure".
+            # It is to ask for 1, so its last block counts as 2.
+            return Row(Answer(at(known, TURNING, 2), TURN, (), False), False)
+    elif first == check_sum(station.seven, stage):
+        # 001, 3.6.4, 3.6.6 and 3.6.8: the next block.
+        following = at(station, IDENTIFYING, stage=stage + 1, seven=station.seven)
+        return Row(Answer(following,
+                          identification_block(station.own_seven, stage + 1), (),
+                          False), True)
+    elif is_check_sum_signal(first):
+        if station.wrong > 0 and first == station.last_wrong:
+            # 001, 3.6.12: "If they are still not identical, and the received
+            # check-sum signal is the same as the previous one, the calling station
+            # initiates the "end of communication" procedure".
+            return Row(Answer(at(station, ENDING, 2, total=1), ALPHAS, (), False),
+                       False)
+        if station.wrong >= MOST_WRONG:
+            # "after which, if the required check-sum signal is still not received,
+            # the calling station reverts to the "stand-by" condition"
+            return Row(Answer(at(station, STANDBY), SILENCE, (), False), False)
+        # "otherwise the calling station transmits the previous identification block
+        # again"
+        again = station._replace(wrong=station.wrong + 1, last_wrong=first)
+        return Row(Answer(again, block, (), False), False)
+    # 001, 3.6.13 and 3.6.15: the block again.
+    return Row(Answer(station, block, (), False), False)
+
+
+# 001, 3.6.2, 3.6.4 and 3.6.6: of an identification block the places of its letters,
+# and which of the seven signals they are.
+LETTERS_OF_BLOCK = {1: ((0, 2), (0, 1)), 2: ((1, 2), (2, 3)), 3: ((0, 1, 2), (4, 5, 6))}
+
+
+def identification_heard(burst):
+    """The number of the identification block that the burst is, 0 for none: X alpha
+    X is 1, alpha X X is 2, X X X is 3, each X of table 3a."""
+    for number, (places, _) in LETTERS_OF_BLOCK.items():
+        if all(is_identity_signal(word) if place in places else word == ALPHA
+               for place, word in enumerate(burst)):
+            return number
+    return 0
+
+
+def gathered_with(gathered, burst, number):
+    """The seven signals with those of this identification block in their place."""
+    words = list(gathered)
+    for place, index in zip(*LETTERS_OF_BLOCK[number]):
+        words[index] = burst[place]
+    return tuple(words)
+
+
+def answering(station, burst, offer):
+    stage = station.stage
+    if burst == ALPHAS:
+        # 001, 3.6.17: "it sends a "control signal 1" and reverts to the "stand-by"
+        # condition".
+        return Row(Answer(at(station, STANDBY), single(CS1), (), False), False)
+    if burst == THREE_RQ and stage == 4:
+        known = station._replace(other_end=station.seven)
+        if offer.kind == "over":
+            # 001, 3.6.9: ""control signal 3", if the called station is required to
+            # start the traffic flow".  The over is taken.
+            return Row(Answer(at(known, ASKING), single(CS3), (), True), False)
+        # ""control signal 1", thus starting the traffic flow".
+        return Row(Answer(at(known, RECEIVING, 1), single(CS1), (), False), False)
+    number = identification_heard(burst)
+    if number == stage:
+        # 001, 3.6.3, 3.6.5 and 3.6.7: "On receipt of "identification block 1" the
+        # called station sends "check-sum signal 1", derived from its identity."
+        seven = gathered_with(station.seven, burst, number)
+        return Row(Answer(at(station, ANSWERING, stage=stage + 1, seven=seven),
+                          single(check_sum(station.own_seven, number)), (), False),
+                   True)
+    if number != 0 and number == stage - 1:
+        # 001, 3.6.12: "sends the appropriate check-sum signal once more"; 3.6.16: if
+        # they "are not identical, the called station sends "signal repetition" until
+        # two identical consecutive identification blocks are received".
+        seven = gathered_with(station.seven, burst, number)
+        word = RQ
+        if seven == station.seven:
+            word = check_sum(station.own_seven, number)
+        return Row(Answer(station._replace(seven=seven), single(word), (), False),
+                   False)
+    # 001, 3.5.5: "it sends "control signal 4" until "identification block 1" has been
+    # received"; 3.6.14: "it transmits a "signal repetition"".
+    return Row(Answer(station, single(CS4 if stage == 1 else RQ), (), False), False)
+
+
 ROWS = {
     SENDING: sending,
     TURNING: turning,
@@ -391,9 +627,13 @@ ROWS = {
     STANDBY: standby,
     LOST: lost,
     CALLING: calling,
+    CALLING_3: calling_three,
+    IDENTIFYING: identifying,
+    ANSWERING: answering,
 }
 
-COUNTING = (SENDING, TURNING, OPENING, RECEIVING, ASKING)
+# 02, T-05 adds the last two.
+COUNTING = (SENDING, TURNING, OPENING, RECEIVING, ASKING, IDENTIFYING, ANSWERING)
 
 
 # --- The step ---
@@ -409,7 +649,8 @@ def step(station, burst, offer):
 
     # "Repetition count: steps in a row, at Sending, Turning, Opening,
     # Receiving or Asking, in which the station neither changes place, nor
-    # confirms, nor accepts."
+    # confirms, nor accepts."  At Identifying and Answering the step to the next
+    # stage is one that confirms or accepts.
     repetition = (station.place in COUNTING
                   and answer.station.place == station.place
                   and not confirmed_or_accepted)
@@ -417,6 +658,10 @@ def step(station, burst, offer):
         # "Then, and after every other step, the count is 0."
         return answer._replace(station=answer.station._replace(count=0))
     count = station.count + 1
+    if count == MOST_COUNT + 1 and station.place in (IDENTIFYING, ANSWERING):
+        # 02, T-05: "32 successive repetitions lead to stand-by".
+        resting = at(station, STANDBY)._replace(count=0)
+        return Answer(resting, SILENCE, (), False)
     if count == MOST_COUNT + 1:
         # "The 32nd makes it Lost and silent, with no offer taken."
         lost_now = at(station, LOST)._replace(count=0)

@@ -28,11 +28,11 @@ import station as mode_a  # noqa: E402
 import text  # noqa: E402
 from refusal import Refused  # noqa: E402
 from signals import (  # noqa: E402
-    ALPHA, BETA, BLANK, CARRIAGE_RETURN, CS1, CS2, CS3, FIGURES, LETTERS,
+    ALPHA, BETA, BLANK, CARRIAGE_RETURN, CS1, CS2, CS3, CS4, CS5, FIGURES, LETTERS,
     LINE_FEED, PLUS, QUERY, RQ, SPACE)
 from station import (  # noqa: E402
-    ASKING, CALLING, ENDING, LOST, NO_IDENTITY, NOTHING, OPENING, RECEIVING,
-    SENDING, STANDBY, TURNING, Offer, Station)
+    ANSWERING, ASKING, CALLING, CALLING_3, ENDING, IDENTIFYING, LOST, NO_IDENTITY,
+    NO_SEVEN, NOTHING, OPENING, RECEIVING, SENDING, STANDBY, TURNING, Offer, Station)
 
 A = signals.traffic_word(1)
 D = signals.traffic_word(4)
@@ -57,9 +57,13 @@ def call_offer(*words):
 
 def at(place, number=0, held=(0, 0, 0), total=0, count=0, case="letters",
        plus=False, master=True, own=NO_IDENTITY, other_end=None, cycles=0, last=0,
-       called=NO_IDENTITY):
+       called=NO_IDENTITY, own_seven=NO_SEVEN, blocks=(), stage=0, wrong=0,
+       last_wrong=0, seven=NO_SEVEN):
+    if place in (IDENTIFYING, ANSWERING) and stage == 0:
+        stage = 1
     return Station(master, place, number, held, total, count, case, plus, own,
-                   other_end, cycles, last, called)
+                   other_end, cycles, last, called, own_seven, blocks, stage, wrong,
+                   last_wrong, seven)
 
 
 def answer(station, *burst, offer=NOTHING):
@@ -76,7 +80,7 @@ RQ3 = (RQ, RQ, RQ)
 TURN = (BETA, ALPHA, BETA)
 SILENCE = (0, 0, 0)
 PLACES = (SENDING, TURNING, OPENING, ENDING, RECEIVING, ASKING, STANDBY, LOST,
-          CALLING)
+          CALLING, CALLING_3, IDENTIFYING, ANSWERING)
 
 
 # --- The code ---
@@ -912,7 +916,7 @@ def identities_kept():
     Stand-by is entered, or a call is answered, placed or completed."""
     draw = random.Random(8)
     for _ in range(4000):
-        place = draw.choice(PLACES)
+        place = draw.choice(PLACES[:9])
         station = at(place, draw.choice((1, 2)), (A, E, A), total=draw.randint(1, 4),
                      count=draw.choice((0, 31)), own=draw.choice((OWN, FAR)),
                      other_end=draw.choice((None, FAR)), called=OWN,
@@ -997,6 +1001,888 @@ def whole_call():
     second = step_of(second, (BETA,) * 3, taken=True)
     assert second == at(SENDING, 1, (BETA,) * 3, own=FAR, other_end=OWN)
     assert first == at(RECEIVING, 1, master=False, own=OWN, count=1)
+
+
+# --- Three-block calls and identification (02, T-05) ---
+
+# The two identities of a station, and those of the one that it calls.
+OWN_7, FAR_7 = spelt("PEARDBY"), spelt("KQVZRSE")
+# 001, table 3a, as it stands there.
+TABLE_3A = {"A": 19, "B": 11, "C": 6, "D": 18, "E": 13, "F": 8, "I": 15, "K": 3,
+            "M": 4, "O": 14, "P": 5, "Q": 2, "R": 16, "S": 9, "T": 10, "U": 12,
+            "V": 0, "X": 1, "Y": 7, "Z": 17}
+LETTERS_3A = spelt(TABLE_3B)
+
+
+def calls_of(identity):
+    """The three call blocks of an identity."""
+    one, two, three, four, five, six, seven = identity
+    return {1: (one, RQ, two), 2: (RQ, three, four), 3: (five, six, seven)}
+
+
+def tells(identity):
+    """The blocks of the four stages of identification."""
+    one, two, three, four, five, six, seven = identity
+    return {1: (one, ALPHA, two), 2: (ALPHA, three, four), 3: (five, six, seven),
+            4: RQ3}
+
+
+def sums(letters):
+    """The three check-sums of seven letters, by adding up."""
+    numbers = [TABLE_3A[letter] for letter in letters]
+    return "".join(TABLE_3B[(numbers[i] + numbers[i + 1] + numbers[i + 2]) % 20]
+                   for i in (0, 2, 4))
+
+
+CALLS_OWN, CALLS_FAR = calls_of(OWN_7), calls_of(FAR_7)
+TELLS_OWN, TELLS_FAR = tells(OWN_7), tells(FAR_7)
+# "P E A R D B Y gives Z E R", and figure 3.
+SUMS_OWN, SUMS_FAR = dict(zip((1, 2, 3), spelt("ZER"))), dict(zip((1, 2, 3), spelt("PED")))
+
+
+def ready(identity=OWN, seven=OWN_7):
+    return mode_a.standing_by_both(identity, seven)
+
+
+def offer_of_seven(words):
+    return Offer("call of seven", tuple(words))
+
+
+GOOD_OFFERS = (NOTHING, OVER, END, text_offer(A, E, A), call_offer(*FAR),
+               offer_of_seven(FAR_7))
+
+
+def check_sums():
+    """001, 2.5."""
+    assert [mode_a.check_sum(OWN_7, n) for n in (1, 2, 3)] == list(spelt("ZER"))
+    assert [mode_a.check_sum(FAR_7, n) for n in (1, 2, 3)] == list(spelt("PED"))
+    assert sums("PEARDBY") == "ZER" and sums("KQVZRSE") == "PED"
+    # Table 3b is table 3a read the other way.
+    for letter, number in TABLE_3A.items():
+        assert TABLE_3B[number] == letter
+        assert signals.NUMBER_OF_WORD[spelt(letter)[0]] == number
+    assert signals.CHECK_SUM_SIGNALS == list(LETTERS_3A)
+    for word in range(256):
+        assert signals.is_check_sum_signal(word) == signals.is_identity_signal(word)
+    draw = random.Random(20)
+    for _ in range(2000):
+        letters = draw.choices(TABLE_3B, k=7)
+        words = spelt(letters)
+        assert tuple(mode_a.check_sum(words, n) for n in (1, 2, 3)) == spelt(sums(letters))
+        # One letter put for another is always seen by one of the three; of two
+        # exchanged, none sees the first with the second, or the last two.
+        index = draw.randrange(7)
+        other = list(letters)
+        other[index] = draw.choice([one for one in TABLE_3B if one != letters[index]])
+        assert sums(other) != sums(letters)
+        one, two, *rest = letters
+        assert sums([two, one] + rest) == sums(letters)
+        assert sums(letters[:5] + letters[:4:-1]) == sums(letters)
+    # A word that is not in table 3a counts 0.
+    for word in range(256):
+        if word not in LETTERS_3A:
+            words = (word,) + OWN_7[1:4] + (word, word) + OWN_7[6:]
+            assert [mode_a.check_sum(words, n) for n in (1, 2, 3)] == list(spelt(
+                TABLE_3B[(13 + 19) % 20] + TABLE_3B[(19 + 16) % 20] + TABLE_3B[7]))
+    assert mode_a.check_sum(NO_SEVEN, 2) == spelt("V")[0]
+
+
+def standing_by_both_or_refused():
+    stands = at(STANDBY, master=False, own=OWN, own_seven=OWN_7)
+    assert mode_a.standing_by_both(OWN, OWN_7) == stands
+    assert mode_a.standing_by(OWN).own_seven == NO_SEVEN
+    for fresh in (mode_a.fresh_master(), mode_a.fresh_slave()):
+        assert fresh.own_seven == NO_SEVEN and fresh.blocks == ()
+    for word in range(256):
+        for index in range(11):
+            words = list(OWN + OWN_7)
+            words[index] = word
+            result = mode_a.standing_by_both(words[:4], words[4:])
+            if word in LETTERS_3A:
+                assert result == at(STANDBY, master=False, own=tuple(words[:4]),
+                                    own_seven=tuple(words[4:]))
+            else:
+                assert result == Refused(8, index)
+                words[10] = 0
+                assert mode_a.standing_by_both(words[:4], words[4:]) == Refused(8, index)
+
+
+# docs/DECISIONS.md, "Blocks in succession", written out: behind each run the run
+# that block 1, block 2, block 3 and any other burst leave; "whole" where the call
+# is complete.
+SUCCESSION = {
+    (): ((1,), (2,), (), ()),
+    (1,): ((1,), (1, 2), (), ()),
+    (1, 2): ((1,), (2,), "whole", ()),
+    (2,): ((1,), (2,), (2, 3), ()),
+    (2, 3): ("whole", (2,), (), ()),
+}
+
+
+def three_block_call_heard():
+    answered = mode_a.Answer(at(ANSWERING, stage=1, master=False, own=OWN,
+                                own_seven=OWN_7), (CS4, 0, 0), (), False)
+    for blocks, left in SUCCESSION.items():
+        for last in (0, 1, 2):
+            for wait in (0, 1, 128, 255):
+                station = at(STANDBY, own=OWN, own_seven=OWN_7, blocks=blocks, last=last,
+                             cycles=wait, case="figures", plus=True, count=31,
+                             other_end=mode_a.Barred(FAR_7))
+                for offer in GOOD_OFFERS:
+                    for number in (1, 2, 3):
+                        result = answer(station, *CALLS_OWN[number], offer=offer)
+                        if left[number - 1] == "whole":
+                            # Whatever was left from before is gone, the bar too.
+                            assert result == answered
+                        elif result.station.place == STANDBY:
+                            assert result.station == station._replace(
+                                blocks=left[number - 1], last=0, count=0,
+                                cycles=max(wait - 1, 0))
+                            assert (result.burst, result.taken) == (SILENCE, False)
+                        else:
+                            assert offer.kind in mode_a.CALLS and wait == 0
+                for other in (SILENCE, RQ3, (A, A, A), CALLS_FAR[1], CALLS_FAR[3],
+                              TELLS_OWN[1], TELLS_OWN[2], (CS4, 0, 0)):
+                    assert answer(station, *other).station.blocks == left[3]
+    # From Stand-by on: 1-2-3 and 2-3-1, in three successive steps; no other order.
+    for one in (1, 2, 3):
+        for two in (1, 2, 3):
+            for three in (1, 2, 3):
+                bursts = [CALLS_OWN[number] for number in (one, two, three)]
+                whole = (one, two, three) in ((1, 2, 3), (2, 3, 1))
+                result = stood(*bursts, station=ready())
+                assert (result == answered) == whole
+                assert (result.station.place == STANDBY) == (not whole)
+    # 3-1-2 is followed by 3, which completes 1-2-3.
+    assert stood(*[CALLS_OWN[n] for n in (3, 1, 2, 3)], station=ready()) == answered
+    # Anything between starts over, damaged or not.
+    for between in (SILENCE, (OWN_7[0], 0, OWN_7[1]), (A, A, A), RQ3, OWN_1, OWN_2):
+        for order in ((1, 2, 3), (2, 3, 1)):
+            one, two, three = (CALLS_OWN[number] for number in order)
+            for bursts in ((one, between, two, three), (one, two, between, three)):
+                assert stood(*bursts, station=ready()).station.place == STANDBY
+            assert stood(between, one, two, three, station=ready()) == answered
+    # A block is heard where all three words are right.
+    for number, blocks in ((1, (2, 3)), (3, (1, 2)), (2, (1,))):
+        for index in range(3):
+            for word in range(256):
+                heard = list(CALLS_OWN[number])
+                heard[index] = word
+                result = answer(at(STANDBY, own=OWN, own_seven=OWN_7, blocks=blocks),
+                                *heard)
+                right = tuple(heard) == CALLS_OWN[number]
+                assert (result.station.blocks == (1, 2) if number == 2
+                        else result.station.place == ANSWERING) == right
+
+
+def seven_outside_table_hears_no_call():
+    for index in range(7):
+        for word in range(256):
+            own = OWN_7[:index] + (word,) + OWN_7[index + 1:]
+            for number, blocks in ((1, (2, 3)), (3, (1, 2)), (2, (1,))):
+                station = at(STANDBY, own_seven=own, blocks=blocks)
+                result = answer(station, *calls_of(own)[number])
+                if word not in LETTERS_3A:
+                    assert result == mode_a.Answer(station._replace(blocks=()), SILENCE,
+                                                   (), False)
+                elif number != 2:
+                    assert result.station.place == ANSWERING
+                else:
+                    assert result.station.blocks == (1, 2)
+    # Each identity is judged by itself.
+    assert stood(OWN_1, OWN_2, station=at(STANDBY, own=OWN)).station.place == RECEIVING
+    station = at(STANDBY, own_seven=OWN_7)
+    assert stood(*CALLS_OWN.values(), station=station).station.place == ANSWERING
+
+
+def both_identities_at_once():
+    """Two that begin with the same two letters, so that block 1 is the same."""
+    own = OWN_7[:2] + spelt("CT")
+    station = ready(own)
+    one, two = (own[0], RQ, own[1]), (own[2], own[3], RQ)
+    assert one == CALLS_OWN[1]
+    heard = stood(one, station=station).station
+    assert (heard.last, heard.blocks) == (1, (1,))
+    assert stood(one, two, station=station).station.place == RECEIVING
+    assert stood(*CALLS_OWN.values(), station=station).station.place == ANSWERING
+    # Behind block 2 of the four and blocks 2 and 3 of the seven, the four go first.
+    both = at(STANDBY, own=own, own_seven=OWN_7, last=2, blocks=(2, 3))
+    assert answer(both, *one) == mode_a.Answer(
+        at(RECEIVING, 1, master=False, own=own, own_seven=OWN_7), (CS1, 0, 0), (), False)
+    # So a station that has heard block 2 of its four answers a two-block call where
+    # a three-block one is placed; call block 3 is then printed.
+    result = stood(two, CALLS_OWN[1], station=station)
+    assert result.station.place == RECEIVING
+    result = answer(result.station, *CALLS_OWN[2])
+    assert result.printed == () and result.burst == (CS1, 0, 0)
+    assert answer(result.station, *CALLS_OWN[3]).printed == CALLS_OWN[3]
+
+
+def three_block_call_placed():
+    placed = mode_a.Answer(at(CALLING_3, own=OWN, own_seven=OWN_7, seven=FAR_7, cycles=1),
+                           CALLS_FAR[1], (), True)
+    offer = offer_of_seven(FAR_7)
+    others = (None, FAR, FAR_7, OWN_7, mode_a.Barred(OWN_7),
+              mode_a.Barred(FAR_7[:6] + (A,)), mode_a.Barred(FAR_7))
+    for burst in (SILENCE, (A, A, A), (CS1, 0, 0), (CS4, 0, 0), (CS3, 0, 0), OWN_1,
+                  CALLS_OWN[1], CALLS_OWN[2], RQ3):
+        for other_end in others:
+            for wait in (0, 1, 2, 128, 255):
+                station = at(STANDBY, own=OWN, own_seven=OWN_7, case="figures", plus=True,
+                             count=31, other_end=other_end, cycles=wait, master=False,
+                             blocks=(2,))
+                result = answer(station, *burst, offer=offer)
+                if wait > 0 and other_end == mode_a.Barred(FAR_7):
+                    # It waits; the offer is not taken.
+                    assert (result.burst, result.taken) == (SILENCE, False)
+                    assert result.station.cycles == wait - 1
+                    assert result.station.other_end == other_end
+                else:
+                    assert result == placed
+                # A two-block call waits for every step, whoever is barred.
+                result = answer(station, *burst, offer=call_offer(*FAR))
+                assert result.taken == (wait == 0)
+                assert result.station.place == (CALLING if wait == 0 else STANDBY)
+
+
+def three_blocks_in_turn():
+    for noise in ((0, 0, 0), (A, E, A), RQ3, (ALPHA,) * 3, (CS1, 0, 0), (CS2, 0, 0),
+                  (128 + CS4, 0, 0), (0, CS4, 0), CALLS_OWN[1]):
+        station = answer(ready(), *SILENCE, offer=offer_of_seven(FAR_7)).station
+        sent = [CALLS_FAR[1]]
+        while True:
+            result = answer(station, *noise, offer=text_offer(A, A, A))
+            assert (result.taken, result.printed, result.station.count) == (False, (), 0)
+            station = result.station
+            if station.place != CALLING_3:
+                break
+            sent.append(result.burst)
+            assert station == at(CALLING_3, own=OWN, own_seven=OWN_7, seven=FAR_7,
+                                 cycles=len(sent))
+        assert sent == [CALLS_FAR[n % 3 + 1] for n in range(128)]
+        assert result.burst == SILENCE
+        assert station == at(STANDBY, own=OWN, own_seven=OWN_7, cycles=128,
+                             other_end=mode_a.Barred(FAR_7))
+    # Counters beyond the limit, and none sent.
+    for sent in range(256):
+        result = answer(at(CALLING_3, seven=FAR_7, cycles=sent, count=31), 0, 0, 0)
+        if sent >= 128:
+            assert result.station == at(STANDBY, cycles=128,
+                                        other_end=mode_a.Barred(FAR_7))
+        else:
+            assert result.station == at(CALLING_3, seven=FAR_7, cycles=sent + 1)
+            assert result.burst == CALLS_FAR[sent % 3 + 1]
+
+
+def calling_three_hears():
+    for sent in (0, 1, 2, 127, 128, 255):
+        for rest in ((0, 0), (A, 255), (CS1, RQ)):
+            for offer in GOOD_OFFERS:
+                station = at(CALLING_3, own=OWN, own_seven=OWN_7, seven=FAR_7,
+                             cycles=sent, case="figures", plus=True, count=7)
+                kept = at(STANDBY, own=OWN, own_seven=OWN_7, case="figures", plus=True)
+                # CS4, once; the answer to the 128th still counts.
+                assert answer(station, CS4, *rest, offer=offer) == mode_a.Answer(
+                    kept._replace(place=IDENTIFYING, stage=1, seven=FAR_7),
+                    TELLS_OWN[1], (), False)
+                barred = kept._replace(other_end=mode_a.Barred(FAR_7))
+                assert answer(station, CS5, *rest, offer=offer) == mode_a.Answer(
+                    barred._replace(place=ENDING, number=2, total=1), (ALPHA,) * 3, (),
+                    False)
+                assert answer(station, CS3, *rest, offer=offer) == mode_a.Answer(
+                    barred._replace(cycles=128), SILENCE, (), False)
+    # Of every other first word nothing comes but the next block.
+    for first in range(256):
+        result = answer(at(CALLING_3, seven=FAR_7, cycles=4), first, 0, 0)
+        going_on = first not in (CS3, CS4, CS5)
+        assert (result.station.place == CALLING_3) == going_on
+
+
+def bar_and_wait():
+    """001, 3.5.4, 3.5.7 and 3.5.8: the same call signal waits, another does not."""
+    refused_by = answer(at(CALLING_3, own=OWN, own_seven=OWN_7, seven=FAR_7, cycles=9),
+                        CS3, 0, 0).station
+    # Behind CS5 the wait begins where the end is over: confirmed by CS1, or sent
+    # four times.
+    ending = answer(at(CALLING_3, own=OWN, own_seven=OWN_7, seven=FAR_7, cycles=9),
+                    CS5, 0, 0).station
+    again = answer(ending, CS2, 0, 0)
+    assert (again.station.place, again.station.total, again.burst) == (
+        ENDING, 2, (ALPHA,) * 3)
+    confirmed = answer(again.station, CS1, 0, 0).station
+    for _ in range(3):
+        assert ending.place == ENDING and ending.other_end == mode_a.Barred(FAR_7)
+        ending = answer(ending, *SILENCE).station
+    assert ending.total == 4
+    run_out = answer(ending, *SILENCE).station
+    assert refused_by == confirmed == run_out == at(
+        STANDBY, own=OWN, own_seven=OWN_7, cycles=128, other_end=mode_a.Barred(FAR_7))
+    station = refused_by
+    for number in range(1, 129):
+        result = answer(station, *SILENCE, offer=offer_of_seven(FAR_7))
+        assert (result.taken, result.burst) == (False, SILENCE)
+        # Another identity may be called at once.
+        assert answer(station, *SILENCE, offer=offer_of_seven(OWN_7)).taken
+        assert not answer(station, *SILENCE, offer=call_offer(*FAR)).taken
+        station = result.station
+        assert station == refused_by._replace(cycles=128 - number)
+    assert answer(station, *SILENCE, offer=offer_of_seven(FAR_7)).taken
+    # The wait of a two-block call bars no call of seven signals.
+    waiting = answer(at(CALLING, own_seven=OWN_7, called=FAR, cycles=9), CS3, 0, 0).station
+    assert waiting.cycles == 128
+    assert answer(waiting, *SILENCE, offer=offer_of_seven(FAR_7)).taken
+    # The bar is gone where another call is placed or answered.
+    other = answer(refused_by, *SILENCE, offer=offer_of_seven(OWN_7)).station
+    assert other.other_end is None
+    other = answer(other, CS3, 0, 0).station
+    assert other.other_end == mode_a.Barred(OWN_7)
+    assert answer(other, *SILENCE, offer=offer_of_seven(FAR_7)).taken
+    for bursts in ((OWN_1, OWN_2), tuple(CALLS_OWN.values())):
+        answered = stood(*bursts, station=refused_by, offer=offer_of_seven(FAR_7))
+        assert answered.station.other_end is None
+
+
+def identifies(stage, wrong=0, last_wrong=0, **fields):
+    return at(IDENTIFYING, own=OWN, own_seven=OWN_7, seven=FAR_7, stage=stage,
+              wrong=wrong, last_wrong=last_wrong, **fields)
+
+
+def identifying_rows():
+    """Each first word at each stage, against the table of docs/DECISIONS.md."""
+    for stage in (1, 2, 3, 4):
+        for wrong, last_wrong in ((0, 0), (0, A), (1, A), (1, E), (3, A), (4, A), (5, E),
+                                  (255, 0), (255, A), (4, CS1)):
+            for count in (0, 30, 31):
+                station = identifies(stage, wrong, last_wrong, count=count,
+                                     case="figures", plus=True)
+                for first in range(256):
+                    rest = (0, 0) if first % 2 else (A, 255)
+                    result = answer(station, first, *rest, offer=text_offer(E, E, E))
+                    assert result == identifying_answer(station, first), (station, first)
+
+
+def identifying_answer(station, first):
+    """The same once more, for an offer of text E E E."""
+    kept = station._replace(stage=0, wrong=0, last_wrong=0, seven=NO_SEVEN, count=0)
+    stage = station.stage
+    if stage < 4 and first == SUMS_FAR[stage]:
+        return mode_a.Answer(station._replace(stage=stage + 1, wrong=0, last_wrong=0,
+                                              count=0), TELLS_OWN[stage + 1], (), False)
+    if stage < 4 and first in LETTERS_3A:
+        if station.wrong >= 1 and station.last_wrong == first:
+            return mode_a.Answer(kept._replace(place=ENDING, number=2, total=1),
+                                 (ALPHA,) * 3, (), False)
+        if station.wrong >= 4:
+            return mode_a.Answer(kept._replace(place=STANDBY), SILENCE, (), False)
+        station = station._replace(wrong=station.wrong + 1, last_wrong=first)
+    if stage == 4 and first == CS1:
+        return mode_a.Answer(kept._replace(place=SENDING, number=1, held=(E, E, E),
+                                           other_end=FAR_7), (E, E, E), (), True)
+    if stage == 4 and first == CS3:
+        return mode_a.Answer(kept._replace(place=TURNING, number=2, other_end=FAR_7),
+                             TURN, (), False)
+    if station.count == 31:
+        return mode_a.Answer(kept._replace(place=STANDBY), SILENCE, (), False)
+    return mode_a.Answer(station._replace(count=station.count + 1), TELLS_OWN[stage], (),
+                         False)
+
+
+def wrong_check_sums():
+    """02: "A block goes out again no more than four times for wrong check-sums"."""
+    for stage in (1, 2, 3):
+        wrong = [word for word in LETTERS_3A if word != SUMS_FAR[stage]]
+        # Each another one than the last: four times again, then Stand-by.
+        station = identifies(stage)
+        for number in range(4):
+            # Damaged answers and RQ between count as repetitions alone.
+            for between in (0, RQ, 128 + wrong[number], CS4, CS2, SPACE):
+                result = answer(station, between, 0, 0)
+                assert result.burst == TELLS_OWN[stage]
+                assert result.station == station._replace(count=station.count + 1)
+            result = answer(station, wrong[number % 2], 0, 0)
+            assert result.burst == TELLS_OWN[stage]
+            station = result.station
+            assert station == identifies(stage, number + 1, wrong[number % 2],
+                                         count=number + 1)
+        assert answer(station, wrong[0], 0, 0) == mode_a.Answer(
+            at(STANDBY, own=OWN, own_seven=OWN_7), SILENCE, (), False)
+        # The right one goes on, and the next stage begins with none.
+        assert answer(station, SUMS_FAR[stage], 0, 0) == mode_a.Answer(
+            identifies(stage + 1), TELLS_OWN[stage + 1], (), False)
+        # The same twice ends the call, damaged answers between or not.
+        for between in ((), (0,), (RQ, 255)):
+            station = answer(identifies(stage), wrong[5], 0, 0).station
+            for word in between:
+                station = answer(station, word, 0, 0).station
+            ended = answer(station, wrong[5], 0, 0)
+            assert ended == mode_a.Answer(at(ENDING, 2, total=1, own=OWN,
+                                             own_seven=OWN_7), (ALPHA,) * 3, (), False)
+            # CS1 confirms it, and nobody waits.
+            assert answer(ended.station, CS1, 0, 0).station == at(
+                STANDBY, own=OWN, own_seven=OWN_7)
+        # Another one between the two equal ones: they are not compared.
+        station = answer(identifies(stage), wrong[5], 0, 0).station
+        station = answer(station, wrong[6], 0, 0).station
+        assert answer(station, wrong[5], 0, 0).station.wrong == 3
+        # The last wrong one of the stage before is not compared.
+        station = answer(answer(identifies(1), *spelt("A"), 0, 0).station,
+                         SUMS_FAR[1], 0, 0).station
+        assert answer(station, *spelt("A"), 0, 0).station.wrong == 1
+
+
+def end_of_identification():
+    for count in (0, 31):
+        for other_end in (None, FAR, OWN_7, mode_a.Barred(OWN_7)):
+            station = identifies(4, count=count, other_end=other_end)
+            sending = at(SENDING, 1, own=OWN, own_seven=OWN_7, other_end=FAR_7)
+            for offer, block, taken in (
+                    (text_offer(A, E, BETA), (A, E, BETA), True),
+                    (NOTHING, (BETA,) * 3, True),
+                    (OVER, (FIGURES, PLUS, QUERY), True),
+                    (call_offer(*OWN), (BETA,) * 3, False),
+                    (offer_of_seven(FAR_7), (BETA,) * 3, False)):
+                assert answer(station, CS1, 0, 0, offer=offer) == mode_a.Answer(
+                    sending._replace(held=block), block, (), taken)
+            assert answer(station, CS1, 9, 9, offer=END) == mode_a.Answer(
+                sending._replace(place=ENDING, total=1), (ALPHA,) * 3, (), True)
+            # CS3: it turns, and then asks for 1.
+            for offer in GOOD_OFFERS:
+                result = answer(station, CS3, 9, 9, offer=offer)
+                assert result == mode_a.Answer(
+                    sending._replace(place=TURNING, number=2), TURN, (), False)
+            result = answer(result.station, *RQ3)
+            assert result.station == sending._replace(place=RECEIVING)
+            assert result.burst == (CS1, 0, 0)
+
+
+def answers(stage, seven=NO_SEVEN, **fields):
+    return at(ANSWERING, master=False, own=OWN, own_seven=OWN_7, stage=stage, seven=seven,
+              **fields)
+
+
+def number_of_block(burst):
+    """1 where it is X alpha X, 2 where alpha X X, 3 where X X X, else 0."""
+    shape = "".join("a" if word == ALPHA else "X" if word in LETTERS_3A else "-"
+                    for word in burst)
+    return {"XaX": 1, "aXX": 2, "XXX": 3}.get(shape, 0)
+
+
+def answering_answer(station, burst, offer):
+    """Answering by the table of docs/DECISIONS.md, once more."""
+    kept = station._replace(stage=0, seven=NO_SEVEN, count=0)
+    stage = station.stage
+    if burst == (ALPHA,) * 3:
+        return mode_a.Answer(kept._replace(place=STANDBY), (CS1, 0, 0), (), False)
+    if burst == RQ3 and stage == 4:
+        known = kept._replace(other_end=station.seven)
+        if offer == OVER:
+            return mode_a.Answer(known._replace(place=ASKING), (CS3, 0, 0), (), True)
+        return mode_a.Answer(known._replace(place=RECEIVING, number=1), (CS1, 0, 0), (),
+                             False)
+    number = number_of_block(burst)
+    first = {1: 0, 2: 2, 3: 4}.get(number, 0)
+    letters = tuple(word for word in burst if word != ALPHA)
+    gathered = station.seven[:first] + letters + station.seven[first + len(letters):]
+    if number and number == stage:
+        return mode_a.Answer(station._replace(stage=stage + 1, seven=gathered, count=0),
+                             (SUMS_OWN[number], 0, 0), (), False)
+    if station.count == 31:
+        return mode_a.Answer(kept._replace(place=STANDBY), SILENCE, (), False)
+    station = station._replace(count=station.count + 1)
+    if number and number == stage - 1:
+        if gathered == station.seven:
+            return mode_a.Answer(station, (SUMS_OWN[number], 0, 0), (), False)
+        return mode_a.Answer(station._replace(seven=gathered), (RQ, 0, 0), (), False)
+    return mode_a.Answer(station, (CS4 if stage == 1 else RQ, 0, 0), (), False)
+
+
+def answering_rows():
+    words = (ALPHA, RQ, BETA, A, FAR_7[0], FAR_7[1], L, 0, 128 + A, CS4)
+    bursts = {(one, two, three) for one in words for two in words for three in words}
+    bursts |= set(TELLS_FAR.values()) | set(TELLS_OWN.values()) | set(CALLS_OWN.values())
+    for stage in (1, 2, 3, 4):
+        for gathered in (NO_SEVEN, FAR_7):
+            for count in (0, 30, 31):
+                station = answers(stage, gathered, count=count, case="figures", plus=True)
+                for number, burst in enumerate(sorted(bursts)):
+                    offer = GOOD_OFFERS[number % len(GOOD_OFFERS)]
+                    assert answer(station, *burst, offer=offer) == answering_answer(
+                        station, burst, offer), (station, burst)
+                for offer in GOOD_OFFERS:
+                    for burst in [RQ3, (ALPHA,) * 3] + list(TELLS_FAR.values()):
+                        assert answer(station, *burst, offer=offer) == (
+                            answering_answer(station, burst, offer))
+    # Each word at each place of each block.
+    for number, block in tells(FAR_7).items():
+        for index in range(3):
+            for word in range(256):
+                burst = block[:index] + (word,) + block[index + 1:]
+                for stage in (1, 2, 3, 4):
+                    station = answers(stage, FAR_7)
+                    assert answer(station, *burst) == answering_answer(
+                        station, burst, NOTHING)
+
+
+def blocks_told_in_order():
+    """Three plain letters begin nothing; a block is answered where it is due."""
+    for stage in (1, 2, 3, 4):
+        for number in (1, 2, 3):
+            result = answer(answers(stage), *TELLS_FAR[number])
+            if number == stage:
+                expected = (stage + 1, SUMS_OWN[number])
+            elif number == stage - 1:
+                expected = (stage, RQ)
+            else:
+                expected = (stage, CS4 if stage == 1 else RQ)
+                assert result.station.seven == NO_SEVEN
+            assert (result.station.stage, result.burst[0]) == expected
+    # In the right order all seven are gathered.
+    station = answers(1)
+    for number, gathered in ((1, FAR_7[:2]), (2, FAR_7[:4]), (3, FAR_7)):
+        result = answer(station, *TELLS_FAR[number])
+        assert result == mode_a.Answer(
+            answers(number + 1, gathered + (0,) * (7 - len(gathered))),
+            (SUMS_OWN[number], 0, 0), (), False)
+        station = result.station
+
+
+def blocks_that_differ():
+    """001, 3.6.16: RQ "until two identical consecutive identification blocks are
+    received"; damaged bursts between do not matter."""
+    other = tells(spelt("ZZZZZZZ"))
+    for number in (1, 2, 3):
+        station = answers(number + 1, FAR_7)
+        # The same letters: the check-sum again.
+        result = answer(station, *TELLS_FAR[number])
+        assert result.burst == (SUMS_OWN[number], 0, 0)
+        assert result.station == station._replace(count=1)
+        # Others take their place, and RQ is sent; twice the same, the check-sum.
+        result = answer(station, *other[number])
+        assert result.burst == (RQ, 0, 0)
+        assert result.station.stage == station.stage and result.station.count == 1
+        assert number_of_block(other[number]) == number
+        for between in ((), (SILENCE,), ((0, ALPHA, A), (A, 0, 0))):
+            twice = result.station
+            for burst in between:
+                hears = answer(twice, *burst)
+                assert hears.burst == (RQ, 0, 0)
+                assert hears.station.seven == twice.seven
+                twice = hears.station
+            same = answer(twice, *other[number])
+            assert same.burst == (SUMS_OWN[number], 0, 0)
+            assert same.station.seven == twice.seven
+            # Or the first ones again: RQ, for they differ from the last.
+            first = answer(twice, *TELLS_FAR[number])
+            assert first.burst == (RQ, 0, 0) and first.station.seven == FAR_7
+        # The next block goes on from either.
+        for station in (station, result.station):
+            going_on = answer(station, *TELLS_FAR[number + 1])
+            if number < 3:
+                assert going_on.station.stage == number + 2
+            else:
+                assert going_on.station.other_end == station.seven
+
+
+def thirty_two_lead_to_standby():
+    for make in (identifies, answers):
+        for stage in (1, 2, 3, 4):
+            for other_end in (None, FAR, FAR_7):
+                station = make(stage, other_end=other_end, case="figures", plus=True)
+                expected = at(STANDBY, master=station.master, own=OWN, own_seven=OWN_7,
+                              case="figures", plus=True)
+                for number in range(1, 32):
+                    result = answer(station, *SILENCE, offer=END)
+                    assert result.station == station._replace(count=number)
+                    assert result.burst != SILENCE and not result.taken
+                    station = result.station
+                assert answer(station, *SILENCE, offer=END) == mode_a.Answer(
+                    expected, SILENCE, (), False)
+    # Wrong check-sums and damage count together.
+    station = identifies(1)
+    for number in range(31):
+        first = (0, RQ, spelt("V")[0], 0, spelt("X")[0])[number] if number < 5 else 0
+        station = answer(station, first, 0, 0).station
+    assert (station.count, station.wrong) == (31, 2)
+    assert answer(station, *spelt("V"), 0, 0).station.place == STANDBY
+    assert answer(station, SUMS_FAR[1], 0, 0).station == identifies(2)
+    # So do a block heard again and letters that differ.
+    station = answers(2, FAR_7, count=31)
+    assert answer(station, *TELLS_FAR[1]).station.place == STANDBY
+    assert answer(station, *TELLS_OWN[1]).station.place == STANDBY
+    assert answer(station, *TELLS_FAR[2]).station == answers(3, FAR_7)
+    # Elsewhere the 32nd is still Lost.
+    for place in (SENDING, TURNING, OPENING, RECEIVING, ASKING):
+        assert answer(at(place, 1, (A, A, A), count=31), *SILENCE).station.place == LOST
+
+
+def standby_entered():
+    """From every place, with each kind of other end: a barred identity stays and
+    waits, any other is forgotten."""
+    ways = [(at(OPENING), (CS3, 0, 0)), (at(ENDING, 1, total=1), (CS2, 0, 0)),
+            (at(ENDING, 2, total=4), SILENCE), (at(RECEIVING, 1), (ALPHA,) * 3),
+            (at(ANSWERING, stage=2), (ALPHA,) * 3), (at(ANSWERING, count=31), SILENCE),
+            (identifies(3, count=31), SILENCE),
+            (identifies(2, 4, 0), (spelt("V")[0], 0, 0))]
+    for station, burst in ways:
+        for other_end in (None, FAR, FAR_7, mode_a.Barred(FAR_7)):
+            before = station._replace(own=OWN, own_seven=OWN_7, case="figures", plus=True,
+                                      other_end=other_end)
+            after = answer(before, *burst).station
+            expected = at(STANDBY, own=OWN, own_seven=OWN_7, case="figures", plus=True)
+            if other_end == mode_a.Barred(FAR_7):
+                expected = expected._replace(other_end=other_end, cycles=128)
+            assert after == expected, (before, after)
+    # Lost keeps whoever it is.
+    for other_end in (None, FAR, FAR_7, mode_a.Barred(FAR_7)):
+        after = answer(at(ASKING, count=31, other_end=other_end), *SILENCE).station
+        assert after == at(LOST, other_end=other_end)
+        assert answer(after, *RQ3).station == after
+
+
+def refusal_eight_of_seven():
+    """02: "8 also for a self-identity".  The seven called and then the seven of its
+    own, at every place, before 4."""
+    outside = [word for word in INTACT if word not in LETTERS_3A] + [0, 128 + A]
+    for place in PLACES:
+        good = at(place, 1, (A, A, A), total=1, called=FAR, cycles=1, own_seven=OWN_7,
+                  seven=FAR_7)
+        unsound = [good._replace(count=32)]
+        if place == ENDING:
+            unsound += [good._replace(total=total) for total in (0, 5)]
+        if place == SENDING:
+            unsound += [good._replace(held=(A, word, A)) for word in (RQ, 0)]
+        for index in range(14):
+            for word in outside:
+                words = list(FAR_7 + OWN_7)
+                words[index] = word
+                offer = offer_of_seven(words[:7])
+                for station in [good] + unsound:
+                    station = station._replace(own_seven=tuple(words[7:]))
+                    assert answer(station, *SILENCE, offer=offer) == Refused(8, index)
+                    # No other offer has the own identity judged.
+                    if index > 6:
+                        result = answer(station, *SILENCE, offer=call_offer(*FAR))
+                        assert result == Refused(4, 0) or station == good._replace(
+                            own_seven=station.own_seven)
+        words = list(FAR_7 + OWN_7)
+        words[5] = words[9] = RQ
+        assert answer(good._replace(own_seven=tuple(words[7:])), *SILENCE,
+                      offer=offer_of_seven(words[:7])) == Refused(8, 5)
+        # A good one: 4 is told then.
+        for station in unsound:
+            assert answer(station, *SILENCE, offer=offer_of_seven(FAR_7)) == Refused(4, 0)
+    # During a wait with that identity barred, and where a call is heard.
+    station = at(STANDBY, own_seven=OWN_7[:6] + (0,), cycles=5,
+                 other_end=mode_a.Barred(FAR_7))
+    assert answer(station, *SILENCE, offer=offer_of_seven(FAR_7)) == Refused(8, 13)
+    station = at(STANDBY, own=OWN, last=1)
+    assert answer(station, *OWN_2, offer=offer_of_seven(FAR_7)) == Refused(8, 7)
+    # A station without seven signals may place a call of four, and no other.
+    assert answer(at(STANDBY), *SILENCE, offer=call_offer(*FAR)).taken
+    assert answer(at(STANDBY), *SILENCE, offer=offer_of_seven(FAR_7)) == Refused(8, 7)
+
+
+def call_of_seven_offered_elsewhere():
+    """It is taken at Stand-by alone.  Where a row takes, it gives beta beta beta."""
+    offer = offer_of_seven(FAR_7)
+    for place in PLACES:
+        for first in INTACT + [0, 255]:
+            for rest in ((0, 0), (first, first), (A, A), (ALPHA, A)):
+                for stage in (1, 2, 3, 4):
+                    station = at(place, 1, (A, A, A), total=2, called=FAR, cycles=3,
+                                 last=1, own=OWN, own_seven=OWN_7, seven=FAR_7,
+                                 stage=stage if place in (IDENTIFYING, ANSWERING) else 0)
+                    result = answer(station, first, *rest, offer=offer)
+                    if place == STANDBY:
+                        assert result.taken and result.station.place == CALLING_3
+                    else:
+                        assert result == answer(station, first, *rest)._replace(
+                            taken=False)
+                    if place not in (IDENTIFYING, ANSWERING):
+                        break
+
+
+def fields_of_identification_that_contradict():
+    # Words outside table 3a in what is carried: they go out, count 0, and become the
+    # other end.
+    wrong = (0, RQ, CS1, 255, 128 + A, ALPHA, CS3)
+    station = at(CALLING_3, seven=wrong, own_seven=wrong, cycles=2)
+    assert answer(station, *SILENCE).burst == (128 + A, ALPHA, CS3)
+    result = answer(station, CS4, 0, 0)
+    assert result.burst == (0, ALPHA, RQ)
+    for _ in range(3):
+        # Every check-sum of it is that of 0.
+        result = answer(result.station, *spelt("V"), 0, 0)
+    assert result.station.stage == 4 and result.burst == RQ3
+    assert answer(result.station, CS1, 0, 0).station.other_end == wrong
+    result = answer(at(ANSWERING, own_seven=wrong, stage=4, seven=wrong), *RQ3)
+    assert result.station.other_end == wrong
+    # A slave at Calling or Identifying and a master at Answering come from no step.
+    for station in (at(CALLING_3, seven=FAR_7, cycles=1, master=False),
+                    identifies(1, master=False)):
+        assert not answer(station, *SILENCE).station.master
+    assert answer(at(ANSWERING, stage=4), *RQ3).station.master
+    # More than four wrong check-sums count as four, and stay as they are.
+    station = identifies(1, 200, A)
+    assert answer(station, *SILENCE).station.wrong == 200
+    assert answer(station, *spelt("V"), 0, 0).station.place == STANDBY
+    assert answer(station, A, 0, 0).station.place == ENDING
+
+
+def nothing_printed_and_own_kept():
+    """"never goes to the printer": at the places of calls nothing is printed; no step
+    changes either identity of its own."""
+    draw = random.Random(19)
+    for _ in range(6000):
+        place = draw.choice(PLACES)
+        carries = place in (CALLING_3, IDENTIFYING, ANSWERING)
+        station = at(place, draw.choice((1, 2)), (A, E, A), total=draw.randint(1, 4),
+                     count=draw.choice((0, 31)), own=OWN, own_seven=OWN_7, called=FAR,
+                     cycles=draw.choice((0, 5, 128)), last=draw.randrange(3),
+                     seven=FAR_7 if carries else NO_SEVEN,
+                     stage=draw.randint(1, 4) if carries and place != CALLING_3 else 0,
+                     blocks=draw.choice(mode_a.RUNS_OF_BLOCKS) if place == STANDBY
+                     else (), other_end=draw.choice((None, FAR, FAR_7,
+                                                     mode_a.Barred(FAR_7))))
+        burst = draw.choice((SILENCE, (CS1, 0, 0), (CS3, 0, 0), (CS4, 0, 0), (CS5, 0, 0),
+                             RQ3, (ALPHA,) * 3, (A, E, A), *CALLS_OWN.values(),
+                             *TELLS_FAR.values(), *((word, 0, 0) for word in spelt("PEDV"))))
+        result = answer(station, *burst, offer=draw.choice(GOOD_OFFERS))
+        after = result.station
+        assert (after.own, after.own_seven) == (OWN, OWN_7)
+        if place != RECEIVING:
+            assert result.printed == ()
+        if after.place not in (CALLING_3, IDENTIFYING, ANSWERING):
+            assert (after.seven, after.stage) == (NO_SEVEN, 0)
+        # The other end changes where a call or identification says so, and on
+        # entering Stand-by.
+        if after.place == place or place not in (
+                STANDBY, CALLING, CALLING_3, IDENTIFYING, ANSWERING) and (
+                after.place != STANDBY):
+            assert after.other_end == station.other_end
+
+
+def whole_identification():
+    """A three-block call with damage, identification, traffic from either side, the
+    end, and the identities kept as long as the connection lasts."""
+    first, second = ready(), ready(FAR, FAR_7)
+    on_the_way = SILENCE
+
+    def step_of(station, expected, offer=NOTHING, heard=None, taken=False,
+                printed=()):
+        nonlocal on_the_way
+        result = answer(station, *(on_the_way if heard is None else heard),
+                        offer=offer)
+        assert result.burst == expected, result
+        assert (result.taken, result.printed) == (taken, printed)
+        on_the_way = result.burst
+        return result.station
+
+    def alone(word):
+        return (word, 0, 0)
+
+    first = step_of(first, CALLS_FAR[1], offer=offer_of_seven(FAR_7), taken=True)
+    second = step_of(second, SILENCE, heard=(FAR_7[0], 0, FAR_7[1]))
+    first = step_of(first, CALLS_FAR[2])
+    second = step_of(second, SILENCE)
+    first = step_of(first, CALLS_FAR[3])
+    second = step_of(second, SILENCE)
+    first = step_of(first, CALLS_FAR[1])
+    second = step_of(second, alone(CS4))
+    first = step_of(first, CALLS_FAR[2], heard=SILENCE)
+    second = step_of(second, alone(CS4))
+    first = step_of(first, TELLS_OWN[1])
+    second = step_of(second, alone(CS4), heard=(OWN_7[0], ALPHA, 0))
+    first = step_of(first, TELLS_OWN[1])
+    # Figure 3: P E D.
+    second = step_of(second, alone(spelt("P")[0]))
+    first = step_of(first, TELLS_OWN[2])
+    second = step_of(second, alone(spelt("E")[0]))
+    first = step_of(first, TELLS_OWN[2], heard=SILENCE)
+    second = step_of(second, alone(spelt("E")[0]))
+    first = step_of(first, TELLS_OWN[3])
+    second = step_of(second, alone(RQ), heard=(OWN_7[4], OWN_7[5], 255))
+    first = step_of(first, TELLS_OWN[3])
+    second = step_of(second, alone(spelt("D")[0]))
+    assert first.other_end is None and second.other_end is None
+    first = step_of(first, RQ3)
+    assert second.seven == OWN_7
+    second = step_of(second, alone(RQ), heard=(RQ, RQ, 0))
+    first = step_of(first, RQ3)
+    second = step_of(second, alone(CS1), offer=text_offer(E, E, E))
+    assert second == at(RECEIVING, 1, master=False, own=FAR, own_seven=FAR_7,
+                        other_end=OWN_7)
+    first = step_of(first, RQ3, heard=SILENCE)
+    second = step_of(second, alone(CS1))
+    first = step_of(first, (A, E, A), offer=text_offer(A, E, A), taken=True)
+    assert first == at(SENDING, 1, (A, E, A), own=OWN, own_seven=OWN_7, other_end=FAR_7)
+    second = step_of(second, alone(CS2), printed=(A, E, A))
+    first = step_of(first, (ALPHA,) * 3, offer=END, taken=True)
+    second = step_of(second, alone(CS1))
+    assert second == at(STANDBY, master=False, own=FAR, own_seven=FAR_7)
+    first = step_of(first, SILENCE)
+    assert first == at(STANDBY, own=OWN, own_seven=OWN_7)
+    # Again, and the one called begins the traffic.
+    first = step_of(first, CALLS_FAR[1], offer=offer_of_seven(FAR_7), taken=True)
+    for expected in (CALLS_FAR[2], CALLS_FAR[3], TELLS_OWN[1], TELLS_OWN[2],
+                     TELLS_OWN[3], RQ3):
+        answered = mode_a.step(second, on_the_way, NOTHING)
+        second, on_the_way = answered.station, answered.burst
+        first = step_of(first, expected)
+    second = step_of(second, alone(CS3), offer=OVER, taken=True)
+    assert second.place == ASKING and second.other_end == OWN_7
+    first = step_of(first, TURN, offer=text_offer(A, A, A))
+    second = step_of(second, RQ3)
+    first = step_of(first, alone(CS1))
+    assert first.other_end == FAR_7
+    second = step_of(second, (E, A, E), offer=text_offer(E, A, E), taken=True)
+    first = step_of(first, alone(CS2), printed=(E, A, E))
+    assert second.number == 1
+
+
+def identification_over_damage():
+    """Calls over random damage: where both come to traffic, each knows the other; the
+    one called prints nothing meanwhile."""
+    draw = random.Random(36)
+    seen = {"identified": 0, "given up": 0, "turned": 0, "ended": 0}
+    for run in range(400):
+        caller, called = ready(), ready(FAR, FAR_7)
+        wanted = FAR_7 if run % 5 else FAR_7[:6] + OWN_7[:1]
+        if wanted != FAR_7:
+            # Somebody hears the call who has another identity.
+            called = called._replace(blocks=(1, 2))
+        damage = DAMAGE[run % 4] / 2
+        result = answer(caller, *SILENCE, offer=offer_of_seven(wanted))
+        caller, burst = result.station, result.burst
+        if wanted != FAR_7:
+            burst = CALLS_FAR[3]
+        for number in range(300):
+            heard = tuple(draw.choice(MUTILATED) if draw.random() < damage else word
+                          for word in burst)
+            if number % 2 == 0:
+                offer = OVER if run % 3 == 0 else NOTHING
+                result = answer(called, *heard, offer=offer)
+                called = result.station
+            else:
+                result = answer(caller, *heard)
+                caller = result.station
+            burst = result.burst
+            assert result.printed == ()
+            if caller.place in (SENDING, TURNING):
+                assert caller.other_end == FAR_7 and called.other_end == OWN_7
+                assert called.place in (RECEIVING, ASKING)
+                seen["identified"] += 1
+                seen["turned"] += caller.place == TURNING
+                break
+            if caller.place in (STANDBY, ENDING):
+                seen["given up"] += caller.place == STANDBY
+                seen["ended"] += caller.place == ENDING
+                break
+        if wanted != FAR_7:
+            # A check-sum sees one letter put for another.
+            assert caller.other_end != wanted
+    assert seen["identified"] > 200 and seen["turned"] > 60, seen
+    assert seen["given up"] > 10 and seen["ended"] > 20, seen
 
 
 # --- Demand 3 on random runs of two stations ---
@@ -1637,7 +2523,7 @@ def whole_runs():
     # A refusal that is a record's line is nothing told.
     refused = b"E\0\0\0\1\0A"
     assert programs.run("calls", (), refused) == (b"refused 2 1 -\n", b"", 0)
-    assert programs.run("steps", (), bytes([0, 6, 0, 0, 0, 0, 0, 99] + [0] * 24)) == (
+    assert programs.run("steps", (), bytes([0, 6, 0, 0, 0, 0, 0, 99] + [0] * 52)) == (
         b"refused 4 0\n", b"", 0)
     for name in programs.PROGRAMS:
         usage = b"%s: usage: ./telex %s < input\n" % (name.encode(), name.encode())
@@ -1691,74 +2577,167 @@ def letter_through_all():
 
 
 def step_record(head, burst, offer, *, behind=(0,) * 6, known=(0,) * 5,
-                called=(0,) * 4):
-    """head: bytes 0 to 9; offer: 13 to 16; behind: 17 to 22; known: 23 to 27."""
-    record = bytes([*head, *burst, *offer, *behind, *known, *called])
-    assert len(record) == 32
+                called=(0,) * 4, seven=(0,) * 28):
+    """head: bytes 0 to 9; offer: 13 to 16; behind: 17 to 22; known: 23 to 27; called:
+    28 to 31; seven: 32 on."""
+    record = bytes([*head, *burst, *offer, *behind, *known, *called, *seven])
+    assert len(record) == 60
     return record
+
+
+# The last part of a line where nothing of three-block calls is told.
+NO_MORE = b" | 0 0 0 0 0 0 0 0 0 0 0 0 0 0\n"
 
 
 def steps_records():
     head = [1, 4, 1, 9, 9, 9, 9, 31, 0, 0]
-    nobody = b" | slave 0 0 0 0 0 0 nobody 0 0 0 0\n"
+    nobody = b" | slave 0 0 0 0 0 0 nobody 0 0 0 0" + NO_MORE
     accepted = step_record(head, [116, 86, 51], [0, 9, 9, 9])
     lost = step_record(head, [116, 0, 51], [3, 9, 9, 9])
-    refused = step_record(head, [116, 0, 51], [6, 71, 51, 15])
-    assert programs.steps(accepted + lost + refused + accepted[:31]) == (
+    refused = step_record(head, [116, 0, 51], [7, 71, 51, 15])
+    assert programs.steps(accepted + lost + refused + accepted[:59]) == (
         b"receiving 2 0 0 0 0 0 letters 0 | 106 0 0 | 116 86 0 | 0" + nobody +
         b"lost 0 0 0 0 0 0 letters 0 | 0 0 0 | 0 0 0 | 0" + nobody +
         b"refused 3 2\n", None)
-    sending = step_record([0, 9, 7, 71, 51, 86, 0, 5, 3, 5], [106, 1, 2],
-                          [5, 0, 0, 0], known=(3, 9, 8, 7, 0))
+    sending = step_record([0, 12, 7, 71, 51, 86, 0, 5, 3, 5], [106, 1, 2],
+                          [6, 0, 0, 0], known=(5, 9, 8, 7, 0))
     assert programs.steps(sending)[0] == (
         b"sending 2 51 51 51 0 0 figures 1 | 51 51 51 | 0 0 0 | 1"
-        b" | master 0 0 0 0 0 0 four 9 8 7 0\n")
+        b" | master 0 0 0 0 0 0 four 9 8 7 0" + NO_MORE)
 
 
 def steps_records_of_calls():
     # Stand-by, which hears its second call block behind the first; the same with
     # byte 18 for the second; and what is nobody's.
-    head = [0, 6 + 9, 0, 1, 2, 3, 4, 0, 1, 1]
+    head = [0, 6 + 12, 0, 1, 2, 3, 4, 0, 1, 1]
     own = list(OWN)
     line = programs.steps(step_record(head, OWN_2, [0, 0, 0, 0],
                                       behind=[9, 1 + 3] + own))[0]
     assert line == (b"receiving 1 0 0 0 0 0 letters 0 | 101 0 0 | 0 0 0 | 0"
-                    b" | slave 0 0 0 0 0 0 nobody 0 0 0 0\n")
+                    b" | slave 0 0 0 0 0 0 nobody 0 0 0 0" + NO_MORE)
     line = programs.steps(step_record(head, OWN_2, [0, 0, 0, 0],
                                       behind=[9, 2 + 3] + own,
-                                      known=(255, 1, 2, 3, 4)))[0]
+                                      known=(253, 1, 2, 3, 4)))[0]
     assert line == (b"standby 0 0 0 0 0 0 figures 1 | 0 0 0 | 0 0 0 | 0"
-                    b" | master 8 2 0 0 0 0 four 1 2 3 4\n")
+                    b" | master 8 2 0 0 0 0 four 1 2 3 4" + NO_MORE)
     # A call placed, and one that is refused.
     called = b" ".join(b"%d" % word for word in FAR)
-    offered = step_record(head, [0, 0, 0], [4 + 5, 0, 0, 0], called=FAR)
+    offered = step_record(head, [0, 0, 0], [4 + 6, 0, 0, 0], called=FAR)
     assert programs.steps(offered)[0] == (
         b"calling 0 0 0 0 0 0 letters 0 | %d %d %d | 0 0 0 | 1"
-        b" | master 1 0 %s nobody 0 0 0 0\n" % (*FAR_1, called))
-    assert programs.steps(offered[:30] + b"\0\0")[0] == b"refused 8 2\n"
+        b" | master 1 0 %s nobody 0 0 0 0" % (*FAR_1, called) + NO_MORE)
+    assert programs.steps(offered[:30] + b"\0\0" + offered[32:])[0] == b"refused 8 2\n"
     # Calling goes on, and completes.
     head = [1, 8, 0] + list(FAR) + [0, 0, 0]
     assert programs.steps(step_record(head, [CS2, 0, 0], [1, A, A, A],
                                       behind=[5, 1, 0, 0, 0, 0]))[0] == (
         b"calling 0 0 0 0 0 0 letters 0 | %d %d %d | 0 0 0 | 0"
-        b" | slave 6 2 %s nobody 0 0 0 0\n" % (*FAR_2, called))
+        b" | slave 6 2 %s nobody 0 0 0 0" % (*FAR_2, called) + NO_MORE)
     assert programs.steps(step_record(head, [CS2, 0, 0], [1, A, E, A],
                                       behind=[5, 254, 0, 0, 0, 0]))[0] == (
         b"sending 2 71 86 71 0 0 letters 0 | 71 86 71 | 0 0 0 | 1"
-        b" | slave 0 0 0 0 0 0 four %s\n" % called)
+        b" | slave 0 0 0 0 0 0 four %s" % called + NO_MORE)
     # Fields that a place does not carry are ignored, and written as 0.
-    for place in range(9):
+    for place in range(12):
         record = bytearray(step_record([0, place, 1, A, A, A, 1, 0, 0, 0], [0] * 3,
                                        [0] * 4, behind=[7, 1, 0, 0, 0, 0]))
         fields = programs.steps(bytes(record))[0].decode().split()
         told = [int(field) for field in fields[fields.index("master") + 1:][:6]]
-        assert any(told) == (place in (6, 8)), (place, told)
-        if place not in (6, 8):
-            line = programs.steps(bytes(record))
-            for index in (17, 18):
-                for byte in (0, 128, 255):
+        assert any(told) == (place in (6, 8, 9)), (place, told)
+        ignored = [index for index, places in ((17, (6, 8, 9)), (18, (6, 8)))
+                   if place not in places]
+        line = programs.steps(bytes(record))
+        for index in ignored:
+            for byte in (0, 128, 255):
+                record[index] = byte
+                assert programs.steps(bytes(record)) == line
+
+
+def numbers(words):
+    return b" ".join(b"%d" % word for word in words)
+
+
+def steps_records_of_identification():
+    def line(head, burst, offer=(0,) * 4, *, known=0, of_other=NO_SEVEN, called=NO_SEVEN,
+             own=OWN_7, blocks=0, stage=0, wrong=0, last_wrong=0, seven=NO_SEVEN,
+             wait=0):
+        record = step_record(
+            head, burst, offer, behind=[wait, 0, 0, 0, 0, 0], known=(known, *of_other[:4]),
+            called=called[:4], seven=(*own, *of_other[4:], *called[4:], blocks, stage,
+                                      wrong, last_wrong, *seven, 9, 9, 9, 9))
+        return programs.steps(record)[0]
+
+    def told(place, burst, *, number=0, held=(0,) * 3, total=0, count=0, case=b"letters",
+             taken=0, role=b"master", cycles=0, known=b"nobody", of_other=NO_SEVEN,
+             blocks=0, stage=0, wrong=0, last_wrong=0, seven=NO_SEVEN):
+        return (b"%s %d %s %d %d %s 0 | %s | 0 0 0 | %d | %s %d 0 0 0 0 0 %s %s"
+                b" | %d %d %d %d %s %s\n" % (
+                    place, number, numbers(held), total, count, case, numbers(burst),
+                    taken, role, cycles, known, numbers(of_other[:4]), blocks, stage,
+                    wrong, last_wrong, numbers(seven), numbers(of_other[4:])))
+
+    def head(place, count=0, role=0):
+        return [role, place, 0, 0, 0, 0, 0, count, 0, 0]
+
+    # Stand-by: the run of blocks, and the call that completes it.
+    for byte, blocks in enumerate(((), (1,), (1, 2), (2,), (2, 3))):
+        for number in (1, 2, 3):
+            left = SUCCESSION[blocks][number - 1]
+            result = line(head(6), CALLS_OWN[number], blocks=byte + 5 * number, wait=3)
+            if left == "whole":
+                assert result == told(b"answering", (CS4, 0, 0), role=b"slave", stage=1)
+            else:
+                assert result == told(b"standby", SILENCE, cycles=2, blocks=(
+                    (), (1,), (1, 2), (2,), (2, 3)).index(left))
+    # A call placed; barred; refused.
+    offer = (5 + 12, 0, 0, 0)
+    assert line(head(6), SILENCE, offer, called=FAR_7, wait=3, known=2,
+                of_other=FAR_7) == told(b"calling3", CALLS_FAR[1], taken=1, cycles=1,
+                                        seven=FAR_7)
+    assert line(head(6), SILENCE, offer, called=FAR_7, wait=3, known=3 + 4,
+                of_other=FAR_7) == told(b"standby", SILENCE, cycles=2, known=b"barred",
+                                        of_other=FAR_7)
+    for index in range(14):
+        words = list(FAR_7 + OWN_7)
+        words[index] = RQ
+        assert line(head(6, 32), SILENCE, offer, called=words[:7], own=words[7:]) == (
+            b"refused 8 %d\n" % index)
+    # Calling with three blocks, and what it hears.
+    assert line(head(9), SILENCE, seven=FAR_7, wait=4) == told(
+        b"calling3", CALLS_FAR[2], cycles=5, seven=FAR_7)
+    assert line(head(9), (CS5, 0, 0), seven=FAR_7, wait=4) == told(
+        b"ending", (ALPHA,) * 3, number=2, total=1, known=b"barred", of_other=FAR_7)
+    assert line(head(9), (CS3, 0, 0), seven=FAR_7, wait=4) == told(
+        b"standby", SILENCE, cycles=128, known=b"barred", of_other=FAR_7)
+    assert line(head(9), (CS4, 0, 0), seven=FAR_7, wait=4) == told(
+        b"identifying", TELLS_OWN[1], stage=1, seven=FAR_7)
+    # Identifying.
+    assert line(head(10, 3), (A, 0, 0), stage=4, wrong=2, last_wrong=E,
+                seven=FAR_7) == told(b"identifying", TELLS_OWN[1], count=4, stage=1,
+                                     wrong=3, last_wrong=A, seven=FAR_7)
+    assert line(head(10, 3), (SUMS_FAR[2], 0, 0), stage=1, wrong=2, last_wrong=E,
+                seven=FAR_7) == told(b"identifying", TELLS_OWN[3], stage=3, seven=FAR_7)
+    assert line(head(10, 3), (CS3, 0, 0), stage=255, seven=FAR_7) == told(
+        b"turning", TURN, number=2, known=b"seven", of_other=FAR_7)
+    # Answering.
+    assert line(head(11, 3, 1), TELLS_FAR[2], stage=1, seven=FAR_7[:2] + (9,) * 5) == told(
+        b"answering", (SUMS_OWN[2], 0, 0), role=b"slave", stage=3,
+        seven=FAR_7[:4] + (9,) * 3)
+    assert line(head(11, 3, 1), RQ3, (2, 0, 0, 0), stage=3, seven=FAR_7) == told(
+        b"asking", (CS3, 0, 0), taken=1, role=b"slave", known=b"seven", of_other=FAR_7)
+    assert line(head(11, 31, 1), SILENCE, stage=2, seven=FAR_7) == told(
+        b"standby", SILENCE, role=b"slave")
+    # Fields that a place does not carry, and bytes 56 to 59: ignored.
+    carried = {6: [45], 9: range(49, 56), 10: range(46, 56), 11: [46, *range(49, 56)]}
+    for place in range(12):
+        record = bytearray(step_record([0, place, 1, A, A, A, 1, 0, 0, 0], [0] * 3,
+                                       [0] * 4, seven=[0] * 13 + [1] * 15))
+        plain = programs.steps(bytes(record))
+        for index in range(45, 60):
+            if index not in carried.get(place, ()):
+                for byte in (0, 127, 255):
                     record[index] = byte
-                    assert programs.steps(bytes(record)) == line
+                    assert programs.steps(bytes(record)) == plain, (place, index)
 
 
 def calls_records():
@@ -1833,6 +2812,25 @@ def identity_records():
         "".join(line + "\n" for line in wanted).encode(), None)
     for length in range(1, 5):
         assert programs.calls(b"MG" + (b"I" + bytes(OWN))[:length]) == (
+            b"1 1\n", "bad record at 2: cut short")
+
+
+def both_identity_records():
+    """Of `J`: each word at each place; the index is that in the eleven."""
+    assert programs.calls(b"J" + bytes(OWN + OWN_7) + b"J" + bytes(11)) == (
+        b"ok\nrefused 8 0\n", None)
+    data = bytearray()
+    wanted = []
+    for word in range(256):
+        for index in range(11):
+            words = list(FAR + FAR_7)
+            words[index] = word
+            data += b"J" + bytes(words)
+            wanted.append("ok" if word in LETTERS_3A else "refused 8 %d" % index)
+    assert programs.calls(bytes(data)) == (
+        "".join(line + "\n" for line in wanted).encode(), None)
+    for length in range(1, 12):
+        assert programs.calls(b"MG" + (b"J" + bytes(OWN + OWN_7))[:length]) == (
             b"1 1\n", "bad record at 2: cut short")
 
 
@@ -2012,7 +3010,7 @@ def compare_counts_inputs():
 
 
 # A stand-in for a proved `hear`: it answers each burst as it comes.
-ANSWERING = """
+STAND_IN = """
 import os, sys
 sys.path.insert(0, sys.argv[1])
 import programs
@@ -2038,7 +3036,7 @@ def compare_tells_who_does_not_answer():
 
     kept = compare.started, compare.ANSWER_LIMIT
     try:
-        compare.started = stand_in(sys.executable, "-B", "-c", ANSWERING,
+        compare.started = stand_in(sys.executable, "-B", "-c", STAND_IN,
                                    os.path.dirname(SCRIPT))
         talk = inputs.CONVERSATIONS["hear"][0]
         assert compare.converse("hear", talk) is None
@@ -2162,26 +3160,26 @@ def inputs_of_steps():
     records = [one for data in gate_inputs("steps") for one in step_inputs(data)]
     # Each field with each byte; the fields drawn apart from one another, which
     # no run of stations leaves.
-    for index in range(32):
+    for index in range(60):
         assert len({record[index] for record in records}) == 256
     # Around the time-out at each place, with either role.
     around = {}
     for record in records:
-        key = (record[0] % 2, record[1] % 9, record[7])
+        key = (record[0] % 2, record[1] % 12, record[7])
         around[key] = around.get(key, 0) + 1
     for role in range(2):
-        for place in range(9):
+        for place in range(12):
             for count in (0, 30, 31, 32):
                 assert around[role, place, count] >= 50
     # Chains: counts 0 to 31 one after another, at each place with a count.
     climbed = {}
     length = 0
     for before, after in zip(records, records[1:]):
-        same = before[1] % 9 == after[1] % 9 and before[0] % 2 == after[0] % 2
+        same = before[1] % 12 == after[1] % 12 and before[0] % 2 == after[0] % 2
         length = length + 1 if same and after[7] == before[7] + 1 else 0
         if length == 31:
-            climbed[after[1] % 9] = climbed.get(after[1] % 9, 0) + 1
-    for place in (0, 1, 2, 4, 5):
+            climbed[after[1] % 12] = climbed.get(after[1] % 12, 0) + 1
+    for place in (0, 1, 2, 4, 5, 10, 11):
         assert climbed[place] >= 4
     # Damage by any mutilated byte, at each place of the burst.
     bad = set(MUTILATED)
@@ -2256,6 +3254,121 @@ def inputs_of_calls():
         has(1, "not placed, to wait", cycles, "call")
     assert not any((CALLING, "sent", cycles) in found for cycles in range(128, 256))
     assert ("not placed, to wait", 0, "call") not in found
+
+
+def keys_of_identification(station, burst, offer, result):
+    """What a record of `steps` tries of 02, T-05."""
+    place, stage = station.place, station.stage
+    barred = station.other_end == mode_a.Barred(tuple(offer.words))
+    if isinstance(result, Refused):
+        if result.number == 8 and offer.kind == "call of seven":
+            yield "8", place
+            yield "8 at", result.beside
+            if station.count > 31:
+                yield "8 before 4", result.beside
+        return
+    after = result.station
+    if place == STANDBY:
+        number = mode_a.own_call_block_of_seven(station, burst)
+        yield "heard", station.blocks, number, after.place
+        if after.place == ANSWERING:
+            yield "answered", offer.kind
+            yield "answered, to wait", station.cycles
+        if number and after.last:
+            yield "both heard", after.last, after.blocks
+        if offer.kind == "call of seven" and after.place in (STANDBY, CALLING_3):
+            yield "offered", station.cycles, barred, after.place
+    elif place == CALLING_3:
+        yield "calling", burst[0] if burst[0] in (CS1, CS2, CS3, CS4, CS5) else 0, after.place
+        yield "sent", station.cycles, after.place
+        yield "calling offered", offer.kind, after.place
+    elif place == IDENTIFYING:
+        letter = signals.is_identity_signal(burst[0])
+        expected = stage < 4 and burst[0] == mode_a.check_sum(station.seven, stage)
+        sort = ("expected" if expected else "same" if letter and (
+            burst[0] == station.last_wrong) else "letter" if letter else
+            burst[0] if burst[0] in (CS1, CS2, CS3, CS4, CS5, RQ) else "other")
+        yield "identifying", stage, min(station.wrong, 6), sort
+        yield "identifying, count", stage, station.count, after.place
+        if stage == 4 and after.place != IDENTIFYING:
+            yield "identified", offer.kind, after.place
+    elif place == ANSWERING:
+        number = mode_a.identification_heard(burst)
+        yield "answering", stage, number, after.stage, result.burst[0] == RQ
+        yield "answering, count", stage, station.count, after.place
+        if burst == RQ3:
+            yield "last block", stage, offer.kind, after.place
+    if after.place in (STANDBY, LOST) and place != after.place:
+        kind = programs.other_end_fields(station.other_end)[0]
+        yield "entered", place, kind, after.place
+
+
+def inputs_of_identification():
+    """02, T-05: what the input of `steps` that is there for it holds."""
+    data = [case.data for case in gate_cases("steps") if case.about == "identification"]
+    found = {}
+    for record in step_inputs(data[0]):
+        station, burst, offer = programs.read_step(record)
+        result = mode_a.step(station, burst, offer)
+        for key in keys_of_identification(station, burst, offer, result):
+            found[key] = found.get(key, 0) + 1
+
+    def has(least, *key):
+        assert found.get(key, 0) >= least, (key, found.get(key, 0))
+
+    for place in PLACES:
+        has(40, "8", place)
+    for index in range(14):
+        has(100, "8 at", index)
+        has(20, "8 before 4", index)
+    for blocks, left in SUCCESSION.items():
+        for number in (0, 1, 2, 3):
+            whole = left[number - 1] == "whole" and number > 0
+            has(20, "heard", blocks, number, ANSWERING if whole else STANDBY)
+    for kind in programs.OFFERS:
+        has(8, "answered", kind)
+        has(2, "last block", 4, kind, ASKING if kind == "over" else RECEIVING)
+        has(2, "identified", kind, ENDING if kind == "end" else SENDING)
+        has(2, "identified", kind, TURNING)
+        has(8, "calling offered", kind, CALLING_3)
+        has(2, "calling offered", kind, IDENTIFYING)
+    for cycles in (0, 1, 128):
+        has(3, "answered, to wait", cycles)
+        has(4, "offered", cycles, True, CALLING_3 if cycles == 0 else STANDBY)
+        has(4, "offered", cycles, False, CALLING_3)
+    has(8, "both heard", 1, (1,))
+    for first, left in ((CS1, CALLING_3), (CS2, CALLING_3), (0, CALLING_3),
+                        (CS3, STANDBY), (CS4, IDENTIFYING), (CS5, ENDING)):
+        has(20, "calling", first, left)
+    for sent in range(256):
+        has(1, "sent", sent, CALLING_3 if sent < 128 else STANDBY)
+        has(1, "sent", sent, IDENTIFYING)
+        has(1, "sent", sent, ENDING)
+    for stage in (1, 2, 3):
+        for wrong in range(7):
+            for sort in ("expected", "same", "letter", CS1, CS2, CS3, CS4, CS5, RQ,
+                         "other"):
+                has(2, "identifying", stage, wrong, sort)
+    for stage in (1, 2, 3, 4):
+        for first in (CS1, CS2, CS3, CS4, CS5, RQ, "letter", "other"):
+            has(5, "identifying", 4, 0, first)
+        for place, kind in ((IDENTIFYING, "identifying"), (ANSWERING, "answering")):
+            has(10, kind + ", count", stage, 30, place)
+            has(10, kind + ", count", stage, 31, STANDBY)
+        for number in (0, 1, 2, 3):
+            if number == stage:
+                has(20, "answering", stage, number, stage + 1, False)
+            elif number > 0 and number == stage - 1:
+                has(10, "answering", stage, number, stage, False)
+                has(10, "answering", stage, number, stage, True)
+            else:
+                has(10, "answering", stage, number, stage, stage > 1)
+    for place in (OPENING, ENDING, RECEIVING, CALLING, CALLING_3, IDENTIFYING, ANSWERING):
+        for kind in ("nobody", "four", "seven", "barred"):
+            has(2, "entered", place, kind, STANDBY)
+    for place in (SENDING, TURNING, OPENING, RECEIVING, ASKING):
+        for kind in ("nobody", "four", "seven", "barred"):
+            has(2, "entered", place, kind, LOST)
 
 
 RECEIVE_RUNS = []
@@ -2597,7 +3710,7 @@ def faults_of_groups_are_told():
 def faults_of_all_programs():
     tellers = {teller for one in faults.FAULTS for teller in one.tellers}
     assert tellers == set(COMPARED) | {"calls " + chr(kind) for kind in inputs.KINDS}
-    assert len({one.about for one in faults.FAULTS}) == len(faults.FAULTS) >= 400
+    assert len({one.about for one in faults.FAULTS}) == len(faults.FAULTS) >= 700
     # The modules of the second program are as they were.
     assert faults.programs_with(None) is not programs.run
     assert sys.modules["programs"] is programs
@@ -2615,6 +3728,14 @@ TESTS = [
     calling_hears_cs3, wait_of_128, offer_at_completion, call_offered_elsewhere,
     refusal_eight, counters_beyond_limits, call_fields_that_contradict,
     identities_kept, whole_call,
+    check_sums, standing_by_both_or_refused, three_block_call_heard,
+    seven_outside_table_hears_no_call, both_identities_at_once,
+    three_block_call_placed, three_blocks_in_turn, calling_three_hears, bar_and_wait,
+    identifying_rows, wrong_check_sums, end_of_identification, answering_rows,
+    blocks_told_in_order, blocks_that_differ, thirty_two_lead_to_standby,
+    standby_entered, refusal_eight_of_seven, call_of_seven_offered_elsewhere,
+    fields_of_identification_that_contradict, nothing_printed_and_own_kept,
+    whole_identification, identification_over_damage,
     demand_three, demand_three_from_a_call,
     sender_examples, sender_corners, search_is_last_four, lock_either_way,
     lock_at_a_break, end_of_reception, three_words_more, three_words_are_swallowed,
@@ -2622,13 +3743,14 @@ TESTS = [
     perfect_copy, perfect_copy_of_01, copies_are_needed, last_letter_of_a_bulletin,
     hear_example, words_in_and_out, whole_runs, script_gives_whole_runs,
     letter_through_all, steps_records, steps_records_of_calls,
-    calls_records, meaning_records, identity_records,
+    steps_records_of_identification,
+    calls_records, meaning_records, identity_records, both_identity_records,
     receive_records, receive_records_that_wait, receive_records_run_on,
     receive_records_cut,
     compare_names_all_programs, compare_counts_inputs,
     compare_tells_who_does_not_answer,
     inputs_are_bytes, inputs_at_borders, inputs_tell_each_line,
-    inputs_of_steps, inputs_of_calls, inputs_of_receive, inputs_of_waits,
+    inputs_of_steps, inputs_of_calls, inputs_of_identification, inputs_of_receive, inputs_of_waits,
     inputs_of_waiting_records, inputs_of_small_letters, inputs_of_groups,
     conversations_are_answered,
     faults_not_told_are_found, faults_of_groups_are_told, faults_of_all_programs,
