@@ -282,7 +282,7 @@ figures:
 #define TURN THREE(WORD_BETA, WORD_ALPHA, WORD_BETA)
 #define OVER THREE(WORD_FIGURES, WORD_PLUS, WORD_QUERY)
 
-enum { MOST_COUNT = 31, MOST_ENDS = 4, MOST_CALLS = 128, CALL_WAIT = 128 };
+enum { MOST_COUNT = 31, MOST_ENDS = 4, MOST_CALLS = 128, CALL_WAIT = 128, MOST_WRONG = 4 };
 
 /* What a word of an accepted block does to what was heard.  HEARD_FIGURES,
  * HEARD_PLUS and HEARD_OVER make eight states; byte s of a word's entry holds the
@@ -333,23 +333,63 @@ static inline uint32_t control(unsigned second)
     return WORD_CS1 + (WORD_CS2 - WORD_CS1) * second;
 }
 
-/* 001, table 3a, in its order: 1 for an identity signal. */
-static const uint8_t IDENTIFIES[256] = {
-    [60] = 1, [58] = 1, [46] = 1, [30] = 1,         /* V X Q K */
-    [57] = 1, [45] = 1, [29] = 1, [43] = 1,         /* M P C Y */
-    [27] = 1, [75] = 1, [116] = 1, [114] = 1,       /* F S T B */
-    [78] = 1, [86] = 1, [113] = 1, [77] = 1,        /* U E O I */
-    [85] = 1, [99] = 1, [83] = 1, [71] = 1          /* R Z D A */
-};
+/* 001, tables 3a and 3b: the identity signals by their numbers. */
+#define IDENTITY_SIGNALS(NUMBERED) \
+    NUMBERED(0, 60)     NUMBERED(1, 58)     NUMBERED(2, 46)     NUMBERED(3, 30) \
+    NUMBERED(4, 57)     NUMBERED(5, 45)     NUMBERED(6, 29)     NUMBERED(7, 43) \
+    NUMBERED(8, 27)     NUMBERED(9, 75)     NUMBERED(10, 116)   NUMBERED(11, 114) \
+    NUMBERED(12, 78)    NUMBERED(13, 86)    NUMBERED(14, 113)   NUMBERED(15, 77) \
+    NUMBERED(16, 85)    NUMBERED(17, 99)    NUMBERED(18, 83)    NUMBERED(19, 71)
 
-/* The index of the first signal that is none, 4 where all are. */
-static inline unsigned first_outside(uint32_t identity)
+/* An identity signal's number, with IDENTITY above it; 0 for another word. */
+enum { IDENTITY = 32, ITS_NUMBER = 31 };
+
+#define NUMBERED(number, word) [word] = IDENTITY | (number),
+static const uint8_t IDENTIFIES[256] = { IDENTITY_SIGNALS(NUMBERED) };
+#undef NUMBERED
+
+#define NUMBERED(number, word) [number] = word,
+static const uint8_t CHECK_SUMS[20] = { IDENTITY_SIGNALS(NUMBERED) };
+#undef NUMBERED
+
+static inline unsigned signal_of(uint64_t identity, unsigned index)
+{
+    return identity >> 8 * index & 0xFF;
+}
+
+/* The index of the first of so many signals that is no identity signal; `length`
+ * where all are. */
+static inline unsigned first_outside(uint64_t identity, unsigned length)
 {
     unsigned index = 0;
 
-    while (index < 4 && IDENTIFIES[identity >> 8 * index & 0xFF])
+    while (index < length && IDENTIFIES[signal_of(identity, index)])
         index++;
     return index;
+}
+
+/* The same of two identities, one behind the other. */
+static inline unsigned first_outside_both(uint64_t one, unsigned length, uint64_t two)
+{
+    unsigned index = first_outside(one, length);
+
+    return index < length ? index : length + first_outside(two, 7);
+}
+
+static inline unsigned number_of(uint64_t identity, unsigned index)
+{
+    return IDENTIFIES[signal_of(identity, index)] & ITS_NUMBER;
+}
+
+/* 001, 2.5: check-sum 0 is of the signals 0 to 2, 1 of 2 to 4, 2 of 4 to 6.  A word
+ * that is no identity signal counts 0. */
+static inline unsigned check_sum(uint64_t seven, unsigned which)
+{
+    unsigned from = 2 * which;
+    unsigned sum = number_of(seven, from) + number_of(seven, from + 1)
+                   + number_of(seven, from + 2);
+
+    return CHECK_SUMS[sum % 20];
 }
 
 static inline uint32_t call_block_1(uint32_t identity)
@@ -362,13 +402,36 @@ static inline uint32_t call_block_2(uint32_t identity)
     return THREE(identity >> 16 & 0xFF, identity >> 24, WORD_RQ);
 }
 
+/* Block 0, 1 or 2 of seven signals: with RQ for the mark a call block, with alpha an
+ * identification block. */
+static inline uint32_t block_of(uint64_t seven, unsigned mark, unsigned block)
+{
+    if (block == 0)
+        return THREE(signal_of(seven, 0), mark, signal_of(seven, 1));
+    if (block == 1)
+        return THREE(mark, signal_of(seven, 2), signal_of(seven, 3));
+    return seven >> 32 & 0xFFFFFF;
+}
+
 /* Which call block of its own a station hears: 0 none, 1 or 2.  An identity that
  * is none has none. */
 static inline unsigned own_call(uint32_t own, uint32_t burst)
 {
-    if (first_outside(own) < 4)
+    if (first_outside(own, 4) < 4)
         return 0;
     return burst == call_block_1(own) ? 1 : burst == call_block_2(own) ? 2 : 0;
+}
+
+/* The same of seven signals: 1, 2 or 3. */
+static inline unsigned own_call3(uint64_t own7, uint32_t burst)
+{
+    unsigned block = 3;
+
+    if (first_outside(own7, 7) < 7)
+        return 0;
+    while (block != 0 && burst != block_of(own7, WORD_RQ, block - 1))
+        block--;
+    return block;
 }
 
 struct station plain_fresh_master(void)
@@ -383,7 +446,7 @@ struct station plain_fresh_slave(void)
 
 answer plain_standing_by(struct station *station, uint32_t identity)
 {
-    unsigned outside = first_outside(identity);
+    unsigned outside = first_outside(identity, 4);
 
     if (outside < 4)
         return refused(8, outside);
@@ -391,15 +454,42 @@ answer plain_standing_by(struct station *station, uint32_t identity)
     return 0;
 }
 
+answer plain_standing_by_both(struct station *station, uint32_t identity,
+                              uint64_t seven)
+{
+    unsigned outside = first_outside_both(identity, 4, seven);
+
+    if (outside < 11)
+        return refused(8, outside);
+    plain_standing_by(station, identity);
+    station->own7 = seven;
+    return 0;
+}
+
+/* Where the call offered has a word that is no identity signal: a call of four
+ * signals in these, one of seven in these and then in the own seven, which
+ * identification tells.  ALL_INSIDE where there is none. */
+enum { ALL_INSIDE = 14 };
+
+static inline unsigned call_outside(const struct station *station, uint64_t offer)
+{
+    unsigned index;
+
+    if (offer >> 56 == OFFER_CALL3)
+        return first_outside_both(offer, 7, station->own7);
+    index = first_outside(offer, 4);
+    return index < 4 ? index : ALL_INSIDE;
+}
+
 /* Which refusal it is, in the order of 01 and 02. */
 COLD static step_answer step_refused(const struct station *station, uint64_t offer)
 {
     unsigned index = 0;
 
-    if (offer >> 32 == OFFER_CALL && first_outside((uint32_t)offer) < 4)
-        return (step_answer)first_outside((uint32_t)offer) << 56 | (step_answer)8 << 24;
+    if (offer >> 56 >= OFFER_CALL && call_outside(station, offer) < ALL_INSIDE)
+        return (step_answer)call_outside(station, offer) << 56 | (step_answer)8 << 24;
     if (station->count > MOST_COUNT
-        || (station->place == PLACE_SENDING && !is_block(station->held))
+        || (station->place == PLACE_SENDING && !is_block((uint32_t)station->held))
         || (station->place == PLACE_ENDING
             && (station->total < 1 || station->total > MOST_ENDS)))
         return (step_answer)4 << 24;
@@ -430,13 +520,18 @@ static inline step_answer moves(struct station *station, unsigned place,
     return burst;
 }
 
-/* To Stand-by, where it may place no call for so many steps. */
+/* To Stand-by, where it may place no call for so many steps.  A call that is barred
+ * stays so, and waits from here on. */
 static inline step_answer rests(struct station *station, unsigned wait,
                                 uint32_t burst)
 {
+    if (station->known == OTHER_BARRED)
+        wait = CALL_WAIT;
+    else
+        station->known = OTHER_NOBODY;
     station->cycles = (uint8_t)wait;
     station->last = 0;
-    station->known = 0;
+    station->heard3 = HEARD_NONE;
     return moves(station, PLACE_STANDBY, burst);
 }
 
@@ -446,8 +541,32 @@ static inline step_answer begins(struct station *station, unsigned slave,
 {
     station->slave = (uint8_t)slave;
     station->heard = 0;
-    station->known = 0;
+    station->known = OTHER_NOBODY;
     return moves(station, place, burst);
+}
+
+/* Who is at the other end: the identity that is held. */
+static inline void knows(struct station *station, unsigned as)
+{
+    station->other = station->held;
+    station->known = (uint8_t)as;
+}
+
+/* The end of a three-block call: CS1 confirms it. */
+static inline step_answer ends(struct station *station)
+{
+    station->second = 1;
+    station->total = 1;
+    return moves(station, PLACE_ENDING, ALPHAS);
+}
+
+/* A repetition in identification: the 32nd leads to Stand-by. */
+static inline step_answer identifies_again(struct station *station, uint32_t burst)
+{
+    if (UNLIKELY(station->count >= MOST_COUNT))
+        return rests(station, 0, 0);
+    station->count++;
+    return burst;
 }
 
 /* Text gives that block, nothing beta beta beta, over figures + ?, end alpha
@@ -455,9 +574,9 @@ static inline step_answer begins(struct station *station, unsigned slave,
 static inline step_answer takes(struct station *station, uint64_t offer,
                                 unsigned second)
 {
-    static const uint32_t GIVEN[5] = { BETAS, 0, OVER, ALPHAS, BETAS };
-    static const uint32_t WORDS[5] = { 0, 0xFFFFFF, 0, 0, 0 };
-    unsigned kind = (unsigned)(offer >> 32);
+    static const uint32_t GIVEN[6] = { BETAS, 0, OVER, ALPHAS, BETAS, BETAS };
+    static const uint32_t WORDS[6] = { 0, 0xFFFFFF, 0, 0, 0, 0 };
+    unsigned kind = (unsigned)(offer >> 56);
     uint32_t block = GIVEN[kind] | ((uint32_t)offer & WORDS[kind]);
 
     station->held = block;
@@ -465,7 +584,7 @@ static inline step_answer takes(struct station *station, uint64_t offer,
     station->second = (uint8_t)second;
     station->total = 1;
     station->count = 0;
-    return (step_answer)(kind != OFFER_CALL) << 56 | block;
+    return (step_answer)(kind < OFFER_CALL) << 56 | block;
 }
 
 /* The words of an accepted block but beta, moved up. */
@@ -482,25 +601,52 @@ COLD static uint32_t without_beta(uint32_t burst)
     return words;
 }
 
-/* Stand-by: both call blocks in succession are answered; a call is placed where
- * none is left to wait. */
+/* What is heard in succession behind what was, by the block of its own that the burst
+ * is: 0 none, 1, 2 or 3. */
+static const uint8_t IN_SUCCESSION[HEARD_WHOLE][4] = {
+    [HEARD_NONE] = { HEARD_NONE, HEARD_1, HEARD_2, HEARD_NONE },
+    [HEARD_1] = { HEARD_NONE, HEARD_1, HEARD_1_2, HEARD_NONE },
+    [HEARD_1_2] = { HEARD_NONE, HEARD_1, HEARD_2, HEARD_WHOLE },
+    [HEARD_2] = { HEARD_NONE, HEARD_1, HEARD_2, HEARD_2_3 },
+    [HEARD_2_3] = { HEARD_NONE, HEARD_WHOLE, HEARD_2, HEARD_NONE }
+};
+
+/* Stand-by: both call blocks in succession are answered, and so are three; a call is
+ * placed where none is left to wait, one of seven signals unless that one waits. */
 APART static step_answer stands_by(struct station *station, uint32_t burst, uint64_t offer)
 {
     unsigned call = own_call(station->own, burst);
+    uint64_t called = offer & UINT64_C(0xFFFFFFFFFFFFFF);
+    unsigned heard3;
 
     if (call + station->last == 3) {
         station->second = 0;
         return begins(station, 1, PLACE_RECEIVING, control(0));
     }
-    if (offer >> 32 == OFFER_CALL && station->cycles == 0) {
-        station->held = (uint32_t)offer;
+    heard3 = IN_SUCCESSION[station->heard3][own_call3(station->own7, burst)];
+    if (heard3 == HEARD_WHOLE) {
+        station->stage = 0;
+        station->held = 0;
+        return begins(station, 1, PLACE_ANSWERING, WORD_CS4);
+    }
+    if (offer >> 56 == OFFER_CALL && station->cycles == 0) {
+        station->held = called;
         station->cycles = 1;
         station->last = 0;
         return (step_answer)1 << 56
-               | begins(station, 0, PLACE_CALLING, call_block_1(station->held));
+               | begins(station, 0, PLACE_CALLING, call_block_1((uint32_t)called));
+    }
+    if (offer >> 56 == OFFER_CALL3
+        && (station->cycles == 0 || station->known != OTHER_BARRED
+            || station->other != called)) {
+        station->held = called;
+        station->cycles = 1;
+        return (step_answer)1 << 56
+               | begins(station, 0, PLACE_CALLING3, block_of(called, WORD_RQ, 0));
     }
     station->cycles -= station->cycles != 0;
     station->last = (uint8_t)call;
+    station->heard3 = (uint8_t)heard3;
     return moves(station, PLACE_STANDBY, 0);
 }
 
@@ -511,17 +657,133 @@ APART static step_answer calls_on(struct station *station, uint32_t burst, uint6
     unsigned heard = first == WORD_CS1 ? 1 : first == WORD_CS2 ? 2 : 0;
 
     if (heard != 0 && heard == station->last) {
-        station->other = station->held;
-        station->known = 1;
+        knows(station, OTHER_FOUR);
         return takes(station, offer, heard - 1);
     }
     if (first == WORD_CS3 || station->cycles >= MOST_CALLS)
         return rests(station, CALL_WAIT, 0);
-    burst = station->cycles % 2 == 0 ? call_block_1(station->held)
-                                     : call_block_2(station->held);
+    burst = station->cycles % 2 == 0 ? call_block_1((uint32_t)station->held)
+                                     : call_block_2((uint32_t)station->held);
     station->cycles++;
     station->last = (uint8_t)heard;
     return moves(station, PLACE_CALLING, burst);
+}
+
+/* Calling with three blocks: one CS4 begins identification; CS1 and CS2 answer calls
+ * of four signals alone. */
+APART static step_answer calls_on_3(struct station *station, uint32_t burst)
+{
+    unsigned first = burst & 0xFF;
+
+    if (first == WORD_CS4) {
+        station->stage = 0;
+        station->wrong = 0;
+        station->last = 0;
+        return moves(station, PLACE_IDENTIFYING, block_of(station->own7, WORD_ALPHA, 0));
+    }
+    if (first == WORD_CS5) {
+        knows(station, OTHER_BARRED);
+        return ends(station);
+    }
+    if (first == WORD_CS3 || station->cycles >= MOST_CALLS) {
+        knows(station, OTHER_BARRED);
+        return rests(station, 0, 0);
+    }
+    burst = block_of(station->held, WORD_RQ, station->cycles % 3);
+    station->cycles++;
+    return moves(station, PLACE_CALLING3, burst);
+}
+
+/* Identifying: the check-sums of the identity called, in answer to the blocks of the
+ * own one.  RQ RQ RQ is sent at the last stage. */
+APART static step_answer identifies(struct station *station, uint32_t burst, uint64_t offer)
+{
+    unsigned first = burst & 0xFF;
+    unsigned stage = station->stage;
+    uint32_t block = stage == 3 ? RQS : block_of(station->own7, WORD_ALPHA, stage);
+
+    if (stage == 3) {
+        if (first == WORD_CS1) {
+            knows(station, OTHER_SEVEN);
+            return takes(station, offer, 0);
+        }
+        if (first == WORD_CS3) {
+            knows(station, OTHER_SEVEN);
+            station->second = 1;
+            return moves(station, PLACE_TURNING, TURN);
+        }
+    } else if (first == check_sum(station->held, stage)) {
+        station->stage++;
+        station->wrong = 0;
+        station->last = 0;
+        block = stage == 2 ? RQS : block_of(station->own7, WORD_ALPHA, stage + 1);
+        return moves(station, PLACE_IDENTIFYING, block);
+    } else if (IDENTIFIES[first]) {
+        if (station->wrong != 0 && first == station->last)
+            return ends(station);
+        if (station->wrong >= MOST_WRONG)
+            return rests(station, 0, 0);
+        station->wrong++;
+        station->last = (uint8_t)first;
+    }
+    return identifies_again(station, block);
+}
+
+/* Which identification block the burst is, 0, 1 or 2; NO_BLOCK for none. */
+enum { NO_BLOCK = 4 };
+
+static inline unsigned identification_block(uint32_t burst)
+{
+    unsigned first = burst & 0xFF;
+    unsigned middle = burst >> 8 & 0xFF;
+
+    if (!IDENTIFIES[burst >> 16 & 0xFF])
+        return NO_BLOCK;
+    if (IDENTIFIES[first])
+        return middle == WORD_ALPHA ? 0 : IDENTIFIES[middle] ? 2 : NO_BLOCK;
+    return first == WORD_ALPHA && IDENTIFIES[middle] ? 1 : NO_BLOCK;
+}
+
+/* The signals with those of the block in their places. */
+static inline uint64_t gathered(uint64_t signals, uint32_t burst, unsigned block)
+{
+    if (block == 0)
+        return (signals & ~UINT64_C(0xFFFF)) | (burst & 0xFF) | (burst >> 8 & 0xFF00);
+    if (block == 1)
+        return (signals & ~UINT64_C(0xFFFF0000)) | (burst & 0xFFFF00) << 8;
+    return seven_of((uint32_t)signals, burst);
+}
+
+/* Answering: a check-sum of the own identity to each block of the master's.  The
+ * block before the one awaited is judged by the letters that were gathered. */
+APART static step_answer answers(struct station *station, uint32_t burst, uint64_t offer)
+{
+    unsigned stage = station->stage;
+    unsigned block = identification_block(burst);
+    uint64_t had = station->held;
+
+    if (burst == ALPHAS)
+        return rests(station, 0, control(0));
+    if (burst == RQS && stage == 3) {
+        unsigned over = offer >> 56 == OFFER_OVER;
+
+        knows(station, OTHER_SEVEN);
+        station->second = 0;
+        return (step_answer)over << 56
+               | (over ? moves(station, PLACE_ASKING, WORD_CS3)
+                       : moves(station, PLACE_RECEIVING, control(0)));
+    }
+    if (block == stage) {
+        station->held = gathered(had, burst, block);
+        station->stage++;
+        return moves(station, PLACE_ANSWERING, check_sum(station->own7, block));
+    }
+    if (block + 1 == stage) {
+        station->held = gathered(had, burst, block);
+        return identifies_again(station, station->held == had ? check_sum(station->own7, block)
+                                                              : WORD_RQ);
+    }
+    return identifies_again(station, stage == 0 ? WORD_CS4 : WORD_RQ);
 }
 
 step_answer plain_step(struct station *station, uint32_t burst, uint64_t offer)
@@ -531,19 +793,19 @@ step_answer plain_step(struct station *station, uint32_t burst, uint64_t offer)
     unsigned other = second ^ 1;
 
     if (UNLIKELY((station->count > MOST_COUNT)
-                 | ((offer >> 32 == OFFER_TEXT) & !is_block((uint32_t)offer))))
+                 | ((offer >> 56 == OFFER_TEXT) & !is_block((uint32_t)offer))))
         return step_refused(station, offer);
-    if (UNLIKELY(offer >> 32 == OFFER_CALL && first_outside((uint32_t)offer) < 4))
+    if (UNLIKELY(offer >> 56 >= OFFER_CALL && call_outside(station, offer) < ALL_INSIDE))
         return step_refused(station, offer);
 
     switch (station->place) {
     case PLACE_SENDING:
-        if (UNLIKELY(!is_block(station->held)))
+        if (UNLIKELY(!is_block((uint32_t)station->held)))
             return step_refused(station, offer);
         if (first == control(other))
             return takes(station, offer, other);
         if (first == control(second))
-            return again(station, station->held);
+            return again(station, (uint32_t)station->held);
         if (first == WORD_CS3)
             return moves(station, PLACE_TURNING, TURN);
         return again(station, RQS);
@@ -577,7 +839,7 @@ step_answer plain_step(struct station *station, uint32_t burst, uint64_t offer)
         uint64_t e2 = entry_of(burst, 2);
 
         if ((e0 & e1 & e2) >> 63) {
-            unsigned over = offer >> 32 == OFFER_OVER;
+            unsigned over = offer >> 56 == OFFER_OVER;
             uint32_t printed = burst == BETAS ? 0 : burst;
             unsigned state = (station->heard & 3u) << 3;
             unsigned turns;
@@ -612,6 +874,15 @@ step_answer plain_step(struct station *station, uint32_t burst, uint64_t offer)
 
     case PLACE_CALLING:
         return calls_on(station, burst, offer);
+
+    case PLACE_CALLING3:
+        return calls_on_3(station, burst);
+
+    case PLACE_IDENTIFYING:
+        return identifies(station, burst, offer);
+
+    case PLACE_ANSWERING:
+        return answers(station, burst, offer);
 
     default:
         station->count = 0;

@@ -1,7 +1,7 @@
 /* not proved: for comparison only */
 
 /* Radio-telex logic after ITU-R M.625 (SITOR), as narrowed by paper 01 and changed
- * by 02 (T-01, T-02).  The proved calls are in crates/; docs/COST.md says what this C is
+ * by 02 (T-01, T-02, T-05).  The proved calls are in crates/; docs/COST.md says what this C is
  * compared for.
  *
  * A word is a byte, the unit sent first in bit 0.  A burst is three words in a
@@ -19,7 +19,7 @@
 
 enum {
     WORD_ALPHA = 15, WORD_BETA = 51, WORD_RQ = 102,
-    WORD_CS1 = 101, WORD_CS2 = 106, WORD_CS3 = 89,
+    WORD_CS1 = 101, WORD_CS2 = 106, WORD_CS3 = 89, WORD_CS4 = 53, WORD_CS5 = 105,
     WORD_ERROR = 255                    /* the error mark in a list of signals */
 };
 
@@ -65,10 +65,18 @@ answer plain_slot(const uint8_t *text, size_t length, uint32_t number);
 
 enum {
     PLACE_SENDING, PLACE_TURNING, PLACE_OPENING, PLACE_ENDING,
-    PLACE_RECEIVING, PLACE_ASKING, PLACE_STANDBY, PLACE_LOST, PLACE_CALLING
+    PLACE_RECEIVING, PLACE_ASKING, PLACE_STANDBY, PLACE_LOST, PLACE_CALLING,
+    PLACE_CALLING3, PLACE_IDENTIFYING, PLACE_ANSWERING
 };
 
 enum { HEARD_FIGURES = 1, HEARD_PLUS = 2 };
+
+/* Of its own call blocks of seven signals, those heard in succession. */
+enum { HEARD_NONE, HEARD_1, HEARD_1_2, HEARD_2, HEARD_2_3, HEARD_WHOLE };
+
+/* Who is at the other end: BARRED is nobody, and that call is not to be placed again
+ * at once. */
+enum { OTHER_NOBODY, OTHER_FOUR, OTHER_SEVEN, OTHER_BARRED };
 
 /* Four identity signals, the first in the low byte. */
 static inline uint32_t identity_of(uint8_t first, uint8_t second, uint8_t third,
@@ -77,30 +85,43 @@ static inline uint32_t identity_of(uint8_t first, uint8_t second, uint8_t third,
     return burst_of(first, second, third) | (uint32_t)fourth << 24;
 }
 
+/* Seven identity signals: the first four, and the last three behind them. */
+static inline uint64_t seven_of(uint32_t four, uint32_t three)
+{
+    return four | (uint64_t)three << 32;
+}
+
 /* A field that the place does not carry has no meaning and is not cleared. */
 struct station {
-    uint32_t held;      /* Sending: the block; Calling: the identity called */
+    uint64_t held;      /* Sending: the block; Calling of either kind, Identifying: the
+                           identity called; Answering: the signals gathered */
+    uint64_t own7;      /* the own identity of seven signals; 0 for none */
+    uint64_t other;     /* the identity at the other end, where `known` has one */
+    uint32_t own;       /* the own identity of four signals; 0 for none */
+    uint8_t known;      /* who is at the other end: OTHER_NOBODY to OTHER_BARRED */
     uint8_t place;
     uint8_t second;     /* Sending, Turning, Ending, Receiving: 0 number 1, 1 number 2 */
     uint8_t total;      /* Ending: how often alpha alpha alpha was sent */
     uint8_t count;      /* the repetition count */
     uint8_t heard;      /* of what is received: HEARD_FIGURES, HEARD_PLUS */
     uint8_t slave;      /* 0 master, 1 slave */
-    uint8_t cycles;     /* Stand-by: steps left to wait; Calling: call bursts sent */
-    uint8_t last;       /* Stand-by: the own call block that the last step heard;
-                           Calling: the control signal; 0 none, 1 or 2 */
-    uint32_t own;       /* the own identity; 0 for none */
-    uint32_t other;     /* the identity at the other end, where `known` */
-    uint8_t known;      /* whether anybody is there: 0 nobody, 1 `other` */
+    uint8_t cycles;     /* Stand-by: steps left to wait; Calling of either kind: call
+                           bursts sent */
+    uint8_t last;       /* Stand-by: the own call block of four signals that the last
+                           step heard; Calling: the control signal; 0 none, 1 or 2.
+                           Identifying: the last wrong check-sum */
+    uint8_t heard3;     /* Stand-by: HEARD_NONE to HEARD_2_3 */
+    uint8_t stage;      /* Identifying, Answering: 0 stage 1, 3 stage 4 */
+    uint8_t wrong;      /* Identifying: the wrong check-sums counted at this stage */
 };
 
-/* An offer: its kind in bits 32 to 39, the words of a text or the identity of a
+/* An offer: its kind in bits 56 to 63, the words of a text or the identity of a
  * call below. */
-enum { OFFER_NOTHING, OFFER_TEXT, OFFER_OVER, OFFER_END, OFFER_CALL };
+enum { OFFER_NOTHING, OFFER_TEXT, OFFER_OVER, OFFER_END, OFFER_CALL, OFFER_CALL3 };
 
-static inline uint64_t offer_of(unsigned kind, uint32_t words)
+static inline uint64_t offer_of(unsigned kind, uint64_t words)
 {
-    return (uint64_t)kind << 32 | words;
+    return (uint64_t)kind << 56 | words;
 }
 
 /* Bits 0 to 23: the burst to send.  Bits 24 to 31: the refusal.  Bits 32 to 55:
@@ -117,9 +138,11 @@ static inline unsigned step_value(step_answer given) { return (unsigned)(given >
 struct station plain_fresh_master(void);
 struct station plain_fresh_slave(void);     /* its first burst is CS1 */
 
-/* A station at Stand-by with that identity.  Refusal 8: then the station is left
- * as it is. */
+/* A station at Stand-by with that identity, or with both.  Refusal 8: then the
+ * station is left as it is. */
 answer plain_standing_by(struct station *station, uint32_t identity);
+answer plain_standing_by_both(struct station *station, uint32_t identity,
+                              uint64_t seven);
 
 /* Refusals 8, 4, 3. */
 step_answer plain_step(struct station *station, uint32_t burst, uint64_t offer);

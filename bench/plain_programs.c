@@ -130,86 +130,129 @@ static void read_input(void)
     } while (got != 0);
 }
 
-static uint32_t low_first(const uint8_t *bytes, unsigned count)
+static uint64_t low_first(const uint8_t *bytes, unsigned count)
 {
-    uint32_t value = 0;
+    uint64_t value = 0;
 
     while (count-- > 0)
         value = value << 8 | bytes[count];
     return value;
 }
 
-static unsigned word_of(uint32_t burst, unsigned index)
+static unsigned word_of(uint64_t words, unsigned index)
 {
-    return burst >> 8 * index & 0xFF;
+    return words >> 8 * index & 0xFF;
 }
 
 static const char *const CASES[2] = { "letters", "figures" };
 
 /* --- steps --- */
 
+enum { RECORD = 60 };
+
 static int same_station(const struct station *one, const struct station *two)
 {
-    return one->held == two->held && one->place == two->place
-           && one->second == two->second && one->total == two->total
-           && one->count == two->count && one->heard == two->heard
-           && one->slave == two->slave && one->cycles == two->cycles
-           && one->last == two->last && one->own == two->own
-           && one->other == two->other && one->known == two->known;
+    return one->held == two->held && one->own7 == two->own7 && one->other == two->other
+           && one->own == two->own && one->known == two->known
+           && one->place == two->place && one->second == two->second
+           && one->total == two->total && one->count == two->count
+           && one->heard == two->heard && one->slave == two->slave
+           && one->cycles == two->cycles && one->last == two->last
+           && one->heard3 == two->heard3 && one->stage == two->stage
+           && one->wrong == two->wrong;
+}
+
+/* Seven signals of a record, the last three of which stand apart. */
+static uint64_t seven_at(const uint8_t *four, const uint8_t *three)
+{
+    return seven_of((uint32_t)low_first(four, 4), (uint32_t)low_first(three, 3));
+}
+
+static struct station station_of(const uint8_t *r)
+{
+    struct station s = {
+        .held = low_first(r + 49, 7), .own7 = low_first(r + 32, 7),
+        .other = seven_at(r + 24, r + 39), .own = (uint32_t)low_first(r + 19, 4),
+        .known = r[23] % 4, .place = r[1] % 12, .second = r[2] % 2 == 0,
+        .total = r[6], .count = r[7],
+        .heard = (r[8] % 2 ? HEARD_FIGURES : 0) | (r[9] % 2 ? HEARD_PLUS : 0),
+        .slave = r[0] % 2, .cycles = r[17], .last = r[18] % 3,
+        .heard3 = r[45] % 5, .stage = r[46] % 4, .wrong = r[47]
+    };
+
+    if (s.place == PLACE_SENDING)
+        s.held = low_first(r + 3, 3);
+    if (s.place == PLACE_CALLING)
+        s.held = low_first(r + 3, 4);
+    if (s.place == PLACE_IDENTIFYING)
+        s.last = r[48];
+    return s;
+}
+
+static uint64_t offer_in(const uint8_t *r)
+{
+    unsigned kind = r[13] % 6;
+
+    return offer_of(kind, kind == OFFER_CALL ? low_first(r + 28, 4)
+                          : kind == OFFER_CALL3 ? seven_at(r + 28, r + 42)
+                          : low_first(r + 14, 3));
+}
+
+static void put_words(const char *before, uint64_t words, unsigned from, unsigned count)
+{
+    put("%s", before);
+    for (unsigned index = from; index < from + count; index++)
+        put(" %u", word_of(words, index));
+}
+
+/* A field that the place does not carry is written as 0. */
+static void put_step(const struct station *s, step_answer given)
+{
+    static const char *const PLACES[12] = {
+        "sending", "turning", "opening", "ending", "receiving", "asking", "standby",
+        "lost", "calling", "calling3", "identifying", "answering"
+    };
+    static const char *const OTHERS[4] = { " nobody", " four", " seven", " barred" };
+    int numbered = s->place == PLACE_SENDING || s->place == PLACE_TURNING
+                   || s->place == PLACE_ENDING || s->place == PLACE_RECEIVING;
+    int calls = s->place == PLACE_STANDBY || s->place == PLACE_CALLING;
+    int identifying = s->place == PLACE_IDENTIFYING;
+    int staged = identifying || s->place == PLACE_ANSWERING;
+    uint64_t other = s->known == OTHER_NOBODY ? 0 : s->other;
+
+    put("%s %d", PLACES[s->place % 12], numbered ? s->second + 1 : 0);
+    put_words("", s->place == PLACE_SENDING ? s->held : 0, 0, 3);
+    put(" %d %d %s %d |", s->place == PLACE_ENDING ? s->total : 0, s->count,
+        CASES[s->heard & HEARD_FIGURES ? 1 : 0], s->heard & HEARD_PLUS ? 1 : 0);
+    put_words("", step_sent(given), 0, 3);
+    put_words(" |", step_printed(given), 0, 3);
+    put(" | %u | %s %d %d", step_taken(given), s->slave ? "slave" : "master",
+        calls || s->place == PLACE_CALLING3 ? s->cycles : 0, calls ? s->last : 0);
+    put_words("", s->place == PLACE_CALLING ? s->held : 0, 0, 4);
+    put_words(OTHERS[s->known % 4], other, 0, 4);
+    put(" | %d %d %d %d", s->place == PLACE_STANDBY ? s->heard3 : 0,
+        staged ? s->stage + 1 : 0, identifying ? s->wrong : 0, identifying ? s->last : 0);
+    put_words("", staged || s->place == PLACE_CALLING3 ? s->held : 0, 0, 7);
+    put_words("", s->known == OTHER_FOUR ? 0 : other, 4, 3);
 }
 
 static void steps(void)
 {
-    static const char *const PLACES[9] = {
-        "sending", "turning", "opening", "ending",
-        "receiving", "asking", "standby", "lost", "calling"
-    };
-
     read_input();
-    for (size_t at = 0; size - at >= 32; at += 32) {
+    for (size_t at = 0; size - at >= RECORD; at += RECORD) {
         const uint8_t *r = input + at;
-        const unsigned place = r[1] % 9;
-        const unsigned kind = r[13] % 5;
-        struct station s = {
-            .held = place == PLACE_CALLING ? low_first(r + 3, 4) : low_first(r + 3, 3),
-            .place = (uint8_t)place,
-            .second = r[2] % 2 == 0, .total = r[6], .count = r[7],
-            .heard = (r[8] % 2 ? HEARD_FIGURES : 0) | (r[9] % 2 ? HEARD_PLUS : 0),
-            .slave = r[0] % 2, .cycles = r[17], .last = r[18] % 3,
-            .own = low_first(r + 19, 4), .other = low_first(r + 24, 4), .known = r[23] % 2
-        };
+        struct station s = station_of(r);
         const struct station was = s;
-        step_answer given = plain_step(&s, low_first(r + 10, 3),
-                                       offer_of(kind, kind == OFFER_CALL ? low_first(r + 28, 4)
-                                                                         : low_first(r + 14, 3)));
-        uint32_t sent = step_sent(given);
-        uint32_t printed = step_printed(given);
-        uint32_t held = s.place == PLACE_SENDING ? s.held : 0;
-        uint32_t to = s.place == PLACE_CALLING ? s.held : 0;
-        uint32_t other = s.known ? s.other : 0;
-        int numbered = s.place == PLACE_SENDING || s.place == PLACE_TURNING
-                       || s.place == PLACE_ENDING || s.place == PLACE_RECEIVING;
-        int calls = s.place == PLACE_STANDBY || s.place == PLACE_CALLING;
+        step_answer given = plain_step(&s, (uint32_t)low_first(r + 10, 3), offer_in(r));
 
         if (step_refusal(given) != 0) {
             put("refused %u %u%s\n", step_refusal(given), step_value(given),
                    same_station(&s, &was) ? "" : " and changed");
             continue;
         }
-        put("%s %d %u %u %u %d %d %s %d | %u %u %u | %u %u %u | %u"
-            " | %s %d %d %u %u %u %u %s %u %u %u %u%s\n",
-               PLACES[s.place % 9], numbered ? s.second + 1 : 0,
-               word_of(held, 0), word_of(held, 1), word_of(held, 2),
-               s.place == PLACE_ENDING ? s.total : 0, s.count,
-               CASES[s.heard & HEARD_FIGURES ? 1 : 0], s.heard & HEARD_PLUS ? 1 : 0,
-               word_of(sent, 0), word_of(sent, 1), word_of(sent, 2),
-               word_of(printed, 0), word_of(printed, 1), word_of(printed, 2),
-               step_taken(given), s.slave ? "slave" : "master",
-               calls ? s.cycles : 0, calls ? s.last : 0,
-               word_of(to, 0), word_of(to, 1), word_of(to, 2), word_of(to, 3),
-               s.known ? "four" : "nobody",
-               word_of(other, 0), word_of(other, 1), word_of(other, 2), word_of(other, 3),
-               s.own == was.own ? "" : " and the own identity changed");
+        put_step(&s, given);
+        put("%s\n", s.own == was.own && s.own7 == was.own7
+                    ? "" : " and an own identity changed");
     }
 }
 
@@ -428,6 +471,7 @@ static size_t head_of(uint8_t kind)
     case 'M': return 2;
     case 'R': return 11;
     case 'I': return 5;
+    case 'J': return 12;
     default: return 0;
     }
 }
@@ -461,7 +505,7 @@ static void call_text(const uint8_t *r, size_t room_length, size_t length)
 
 static void call_slot(const uint8_t *r, size_t length)
 {
-    answer given = plain_slot(r + 7, length, low_first(r + 1, 4));
+    answer given = plain_slot(r + 7, length, (uint32_t)low_first(r + 1, 4));
 
     if (answer_refusal(given) != 0)
         put("refused %u %u\n", answer_refusal(given), answer_value(given));
@@ -469,12 +513,18 @@ static void call_slot(const uint8_t *r, size_t length)
         put("ok %u\n", answer_value(given));
 }
 
+/* Of kind I with the identity of four signals, of kind J with both. */
 static void call_standing_by(const uint8_t *r)
 {
+    uint32_t four = (uint32_t)low_first(r + 1, 4);
+    uint64_t seven = r[0] == 'J' ? low_first(r + 5, 7) : 0;
     struct station s = plain_fresh_master();
     const struct station was = s;
-    const struct station wanted = { .place = PLACE_STANDBY, .slave = 1, .own = low_first(r + 1, 4) };
-    answer given = plain_standing_by(&s, low_first(r + 1, 4));
+    const struct station wanted = {
+        .place = PLACE_STANDBY, .slave = 1, .own = four, .own7 = seven
+    };
+    answer given = r[0] == 'J' ? plain_standing_by_both(&s, four, seven)
+                               : plain_standing_by(&s, four);
 
     if (answer_refusal(given) != 0)
         put("refused %u %u%s\n", answer_refusal(given), answer_value(given),
@@ -555,7 +605,8 @@ static void calls(void)
         case 'S': call_slot(r, length); break;
         case 'M': put("%u %u\n", plain_meaning(r[1]), plain_intact(r[1])); break;
         case 'R': call_receive(r); break;
-        case 'I': call_standing_by(r); break;
+        case 'I':
+        case 'J': call_standing_by(r); break;
         default: call_text(r, room_length, length); break;
         }
         at += head + length;
