@@ -8,23 +8,27 @@ from collections import namedtuple
 
 ROOT = os.path.dirname(os.path.dirname(os.path.dirname(os.path.abspath(__file__))))
 
-PLACES = ("sending", "turning", "opening", "ending", "receiving", "asking", "standby", "lost", "calling")
-KINDS = ("cs1-block", "cs1", "cs2-block", "cs2", "cs3-block", "cs3", "rqs", "rq", "block", "turn", "alphas", "else")
-OFFERS = ("nothing", "text", "over", "end", "call")
+PLACES = ("sending", "turning", "opening", "ending", "receiving", "asking", "standby", "lost", "calling", "calling3", "identifying", "answering")
+KINDS = ("cs1-block", "cs1", "cs2-block", "cs2", "cs3-block", "cs3", "cs4-block", "cs4", "cs5-block", "cs5", "letter-block", "letter",
+         "rqs", "rq", "block", "turn", "alphas", "else")
+OFFERS = ("nothing", "text", "over", "end", "call", "call3")
+OTHERS = ("nobody", "four", "seven", "barred")
 MASTER, SLAVE = 0, 1
 ROLES = ("master", "slave")
 
-ALPHA, BETA, RQ, CS1, CS2, CS3 = 15, 51, 102, 101, 106, 89
+ALPHA, BETA, RQ, CS1, CS2, CS3, CS4, CS5 = 15, 51, 102, 101, 106, 89, 53, 105
 SILENCE = (0, 0, 0)
 TRAFFIC = [word for word in range(128) if bin(word).count("1") == 4 and word not in (ALPHA, BETA, RQ)]
 
-# Identities: the letters of table 3a, as signals.
-NO_IDENTITY = (0, 0, 0, 0)
+# Identities: the letters of table 3a, as signals; of four signals and of seven, the seven of 001's example (2.5) and of its figure 3.
+NO_IDENTITY, NO_SEVEN = (0,) * 4, (0,) * 7
 DOCK, VXQZ = (83, 113, 29, 30), (60, 58, 46, 99)
+KQVZRSE, PEARDBY = (30, 46, 60, 99, 85, 75, 86), (45, 86, 71, 85, 83, 114, 43)
+NOBODY = ("nobody", ())
 
-# A station as `steps` writes it, and its own identity, which that does not show; a field that the place does not carry is 0. `other` is an
-# identity, or None for nobody.
-Station = namedtuple("Station", "role place number held total count case plus cycles last to own other")
+# A station as `steps` writes it, and its own identities, of four signals and of seven, which that does not show; a field that the place
+# does not carry is 0. `other` is who is at the other end: the word of `steps`, and the signals.
+Station = namedtuple("Station", "role place number held total count case plus cycles last to own own3 other heard3 stage wrong lastwrong signals")
 # The words of a text, or the identity of a call.
 Offer = namedtuple("Offer", "what words")
 Answer = namedtuple("Answer", "station sent printed taken")
@@ -32,8 +36,9 @@ Answer = namedtuple("Answer", "station sent printed taken")
 NOTHING = Offer("nothing", SILENCE)
 
 
-def at_place(role, place, number=0, held=SILENCE, total=0, count=0, cycles=0, last=0, to=NO_IDENTITY, own=NO_IDENTITY):
-    return Station(role, place, number, held, total, count, "letters", 0, cycles, last, to, own, None)
+def at_place(role, place, number=0, held=SILENCE, total=0, count=0, cycles=0, last=0, to=NO_IDENTITY, own=NO_IDENTITY, own3=NO_SEVEN,
+             other=NOBODY, heard3=0, stage=0, wrong=0, lastwrong=0, signals=NO_SEVEN):
+    return Station(role, place, number, held, total, count, "letters", 0, cycles, last, to, own, own3, other, heard3, stage, wrong, lastwrong, signals)
 
 
 def fresh(role):
@@ -41,15 +46,24 @@ def fresh(role):
     return at_place(role, "opening") if role == MASTER else at_place(role, "receiving", 1)
 
 
-def standing(own):
-    """A station at Stand-by that is called by this identity."""
-    return at_place(SLAVE, "standby", own=own)
+def standing(own, own3=NO_SEVEN):
+    """A station at Stand-by that is called by this identity, and by one of seven signals."""
+    return at_place(SLAVE, "standby", own=own, own3=own3)
 
 
 def call_blocks(identity):
-    """The two call blocks of an identity."""
-    one, two, three, four = identity
-    return (one, RQ, two), (three, four, RQ)
+    """The call blocks of an identity: two where it has four signals, three where it has seven."""
+    if len(identity) == 4:
+        one, two, three, four = identity
+        return (one, RQ, two), (three, four, RQ)
+    one, two, three, four, *rest = identity
+    return (one, RQ, two), (RQ, three, four), tuple(rest)
+
+
+def identity_blocks(identity):
+    """Identification blocks 1 to 3."""
+    one, two, three, four, *rest = identity
+    return (one, ALPHA, two), (ALPHA, three, four), tuple(rest)
 
 
 FIRST_BURST = (CS1, 0, 0)       # 01: a fresh slave's first burst is CS1
@@ -113,34 +127,40 @@ def words(name, some):
 
 
 def record(station, burst, offer):
-    called = offer.what == "call"
+    called = offer.what in ("call", "call3")
+    identity = (offer.words if called else NO_IDENTITY) + (0,) * 3
+    what, other = station.other[0], station.other[1] + (0,) * 7
     return bytes((station.role, PLACES.index(station.place), station.number)
                  + (station.to if station.place == "calling" else station.held + (station.total,))
                  + (station.count, station.case == "figures", station.plus) + burst
                  + (OFFERS.index(offer.what),) + (SILENCE if called else offer.words)
                  + (station.cycles, station.last) + station.own
-                 + (station.other is not None,) + (station.other or NO_IDENTITY)
-                 + (offer.words if called else NO_IDENTITY))
+                 + (OTHERS.index(what),) + other[:4] + identity[:4]
+                 + station.own3 + other[4:7] + identity[4:7]
+                 + (station.heard3, max(station.stage - 1, 0), station.wrong, station.lastwrong) + station.signals + (0,) * 4)
 
 
 @functools.lru_cache(1 << 16)
-def answer(own, line):
+def answer(own, own3, line):
     if not line.endswith("\n"):
         raise NotRun("./telex --built steps ended before it had answered")
     if line.startswith("refused"):
         raise SystemExit("a step was refused: " + line)
-    place, sent, printed, taken, calls = [part.split() for part in line.split("|")]
+    place, sent, printed, taken, calls, told = [part.split() for part in line.split("|")]
     number, *held = [int(field) for field in place[1:5]]
     total, count, plus = int(place[5]), int(place[6]), int(place[8])
     cycles, last, *to = [int(field) for field in calls[1:7]]
-    other = None if calls[7] == "nobody" else tuple(map(int, calls[8:]))
-    return Answer(Station(ROLES.index(calls[0]), place[0], number, tuple(held), total, count, place[7], plus, cycles, last, tuple(to), own, other),
+    heard3, stage, wrong, lastwrong, *signals = [int(field) for field in told]
+    known = {"nobody": 0, "four": 4}.get(calls[7], 7)
+    other = (calls[7], tuple((*map(int, calls[8:]), *signals[7:])[:known]))
+    return Answer(Station(ROLES.index(calls[0]), place[0], number, tuple(held), total, count, place[7], plus, cycles, last, tuple(to), own, own3,
+                          other, heard3, stage, wrong, lastwrong, tuple(signals[:7])),
                   tuple(map(int, sent)), tuple(int(word) for word in printed if word != "0"), taken == ["1"])
 
 
 class Steps:
     """The program `steps`, kept running."""
-    AT_ONCE = 4096 // 32    # so many records of 32 bytes any pipe takes whole: the answers to all before have been read by then
+    AT_ONCE = 4096 // 60    # so many records of 60 bytes any pipe takes whole: the answers to all before have been read by then
 
     def __enter__(self):
         self.process = started(subprocess.Popen, "./telex", "--built", "steps", stdin=subprocess.PIPE, stdout=subprocess.PIPE)
@@ -163,23 +183,28 @@ class Steps:
                 self.process.stdin.flush()
             except OSError as fault:
                 raise NotRun("./telex --built steps takes no more records: %s" % fault.strerror)
-            answers += [answer(one[0].own, self.process.stdout.readline().decode("ascii")) for one in some]
+            answers += [answer(one[0].own, one[0].own3, self.process.stdout.readline().decode("ascii")) for one in some]
         return answers
 
 
-class Circuit:
-    """A fresh master and a fresh slave, or two stations at Stand-by, of which the first calls the second. Bursts alternate; who hears one
-    answers it, and the other hears the answer."""
+# How a circuit begins: with a fresh master and a fresh slave, or with two stations at Stand-by, of which the first calls the second by two
+# blocks or by three.
+BY_FRESH, BY_CALL, BY_CALL3 = range(3)
+FIRST_CALL = {BY_CALL: Offer("call", VXQZ), BY_CALL3: Offer("call3", PEARDBY)}
 
-    def __init__(self, by_call=False):
-        self.stations = [standing(DOCK), standing(VXQZ)] if by_call else [fresh(MASTER), fresh(SLAVE)]
-        self.on_the_way, self.hearer = SILENCE if by_call else FIRST_BURST, MASTER
-        self.to_call = by_call      # whether the call is still to be placed
+
+class Circuit:
+    """Two stations. Bursts alternate; who hears one answers it, and the other hears the answer."""
+
+    def __init__(self, by=BY_FRESH):
+        self.stations = [standing(DOCK, KQVZRSE), standing(VXQZ, PEARDBY)] if by else [fresh(MASTER), fresh(SLAVE)]
+        self.on_the_way, self.hearer = SILENCE if by else FIRST_BURST, MASTER
+        self.to_call = FIRST_CALL.get(by)       # the call that is still to be placed
 
     def answered(self, reply):
         self.stations[self.hearer] = reply.station
         self.on_the_way, self.hearer = reply.sent, 1 - self.hearer
-        self.to_call = False
+        self.to_call = None
 
 
 def pick(chance, some):
@@ -198,7 +223,7 @@ def offered(chance, circuit):
     """A call begins a circuit by call; later one may be offered where it is not placed, which is at every place but Stand-by."""
     what = pick(chance, ("nothing", "text", "text", "text", "over", "over", "end", "call"))
     if circuit.to_call:
-        return Offer("call", VXQZ)
+        return circuit.to_call
     if what == "call":
         return NOTHING if circuit.stations[circuit.hearer].place == "standby" else Offer("call", VXQZ)
     if what != "text":
@@ -214,12 +239,12 @@ def seen(steps, circuits=400, events=2000):
     """The cells that the stations of a long run came to: (place, kind) heard, and how many steps it was."""
     chance = random.Random(625)
     heard = set()
-    runs, rates = [Circuit(number % 2 == 1) for number in range(circuits)], [[0, 0] for _ in range(circuits)]
+    runs, rates = [Circuit(number % 3) for number in range(circuits)], [[0, 0] for _ in range(circuits)]
     for _ in range(events):
         asked = []
         for number, circuit in enumerate(runs):
             if {station.place for station in circuit.stations} <= {"standby", "lost"} and chance.random() < 0.1:
-                circuit = runs[number] = Circuit(number % 2 == 1)
+                circuit = runs[number] = Circuit(number % 3)
             if chance.random() < REDRAWN:
                 rates[number][circuit.hearer] = pick(chance, RATES)
             burst = damaged(chance, circuit.on_the_way, rates[number][circuit.hearer])
