@@ -20,7 +20,7 @@
 
 enum {
     WORD_RETURN = 120, WORD_LINE_FEED = 108, WORD_LETTERS = 90,
-    WORD_FIGURES = 54, WORD_BLANK = WORD_CS2, WORD_PLUS = 99, WORD_QUERY = 114
+    WORD_BLANK = WORD_CS2, WORD_WHO = 83        /* D, "who are you" in figures */
 };
 
 /* The traffic signals but the shifts and blank, by sort: those with a letter and
@@ -288,9 +288,10 @@ enum { MOST_COUNT = 31, MOST_ENDS = 4, MOST_CALLS = 128, CALL_WAIT = 128, MOST_W
  * HEARD_PLUS and HEARD_OVER make eight states; byte s of a word's entry holds the
  * state after state s, times eight, so that it is the shift into the next word's
  * entry.  The top bit marks the words that may stand in a block (traffic, beta),
- * the one below it marks beta; both are outside STATE, in every byte.  0 for the
- * rest. */
-enum { HEARD_OVER = 4, STATE = 0x38 };
+ * the one below it marks beta; both are outside STATE, in every byte.  The lowest bit
+ * of a byte, ASKED, marks D where the state is one of figures: "who are you" (02,
+ * T-06).  0 for the rest. */
+enum { HEARD_OVER = 4, STATE = 0x38, ASKED = 1 };
 
 #define AFTER(s0, s1, s2, s3, s4, s5, s6, s7) \
     (UINT64_C(0x8080808080808080) \
@@ -298,10 +299,12 @@ enum { HEARD_OVER = 4, STATE = 0x38 };
      | (uint64_t)(s3) << 27 | (uint64_t)(s4) << 35 | (uint64_t)(s5) << 43 \
      | (uint64_t)(s6) << 51 | (uint64_t)(s7) << 59)
 #define AFTER_ANY_OTHER AFTER(0, 1, 0, 1, 4, 5, 4, 5)
+#define ASKED_IN_FIGURES UINT64_C(0x0100010001000100)
 
 #define SHIFTED(number, word, letter, figure) \
     [word] = (word) == WORD_PLUS ? AFTER(0, 3, 0, 3, 4, 7, 4, 7) \
              : (word) == WORD_QUERY ? AFTER(0, 1, 0, 5, 4, 5, 4, 5) \
+             : (word) == WORD_WHO ? AFTER_ANY_OTHER | ASKED_IN_FIGURES \
              : AFTER_ANY_OTHER,
 #define LETTER(number, word, letter) [word] = AFTER_ANY_OTHER,
 #define PLAIN(number, word, character) [word] = AFTER_ANY_OTHER,
@@ -466,6 +469,50 @@ answer plain_standing_by_both(struct station *station, uint32_t identity,
     return 0;
 }
 
+/* Whether a station may have the code: at most 20 signals, all traffic, and neither
+ * D in figures nor an over among them, from letters or from figures. */
+APART static unsigned passes(const struct code *code)
+{
+    unsigned letters = 0;
+    unsigned figures = HEARD_FIGURES << 3;
+    unsigned heard = 0;
+
+    if (code->length > MOST_CODE)
+        return 0;
+    for (unsigned i = 0; i < code->length; i++) {
+        uint64_t entry = HEAR[code->words[i]];
+
+        if (entry >> 62 != 2)       /* it may stand in a block, and is not beta */
+            return 0;
+        letters = (unsigned)(entry >> (letters & STATE));
+        figures = (unsigned)(entry >> (figures & STATE));
+        heard |= letters | figures;
+    }
+    return (heard & (ASKED | HEARD_OVER << 3)) == 0;
+}
+
+answer plain_with_code(struct station *station, const struct code *code)
+{
+    if (!passes(code))
+        return refused(9, 0);
+    station->code = *code;
+    station->owed = OWED_NOTHING;
+    return 0;
+}
+
+/* How many blocks the answer has: those of the code, beta beta beta twice, and where
+ * the direction is turned back the over. */
+static inline unsigned answer_blocks(const struct station *station)
+{
+    return (station->code.length + 2u) / 3 + (station->owed == OWED_BACK ? 3 : 2);
+}
+
+/* Whether a block is owed that the answer does not have. */
+static inline unsigned owes_past(const struct station *station)
+{
+    return station->owed != OWED_NOTHING && station->index >= answer_blocks(station);
+}
+
 /* Where the call offered has a word that is no identity signal: a call of four
  * signals in these, one of seven in these and then in the own seven, which
  * identification tells.  ALL_INSIDE where there is none. */
@@ -491,8 +538,11 @@ COLD static step_answer step_refused(const struct station *station, uint64_t off
     if (station->count > MOST_COUNT
         || (station->place == PLACE_SENDING && !is_block((uint32_t)station->held))
         || (station->place == PLACE_ENDING
-            && (station->total < 1 || station->total > MOST_ENDS)))
+            && (station->total < 1 || station->total > MOST_ENDS))
+        || owes_past(station))
         return (step_answer)4 << 24;
+    if (!passes(&station->code))
+        return (step_answer)9 << 24;
     while (index < 2 && entry_of((uint32_t)offer, index) != 0)
         index++;
     return (step_answer)index << 56 | (step_answer)3 << 24;
@@ -532,6 +582,7 @@ static inline step_answer rests(struct station *station, unsigned wait,
     station->cycles = (uint8_t)wait;
     station->last = 0;
     station->heard3 = HEARD_NONE;
+    station->owed = OWED_NOTHING;
     return moves(station, PLACE_STANDBY, burst);
 }
 
@@ -540,6 +591,7 @@ static inline step_answer begins(struct station *station, unsigned slave,
                                  unsigned place, uint32_t burst)
 {
     station->slave = (uint8_t)slave;
+    station->owed = OWED_NOTHING;
     station->heard = 0;
     station->known = OTHER_NOBODY;
     return moves(station, place, burst);
@@ -569,8 +621,30 @@ static inline step_answer identifies_again(struct station *station, uint32_t bur
     return burst;
 }
 
+/* The block of the answer that is owed: what the code has left for it, filled with
+ * beta, or where the direction is turned back the over for the last.  The offer,
+ * whatever it is, is not taken. */
+APART static step_answer takes_owed(struct station *station, unsigned second)
+{
+    unsigned from = 3u * station->index;
+    uint32_t block = BETAS;
+
+    for (unsigned i = 0; i < 3 && from + i < station->code.length; i++)
+        block ^= (uint32_t)(WORD_BETA ^ station->code.words[from + i]) << 8 * i;
+    station->index++;
+    if (station->index == answer_blocks(station)) {
+        if (station->owed == OWED_BACK)
+            block = OVER;
+        station->owed = OWED_NOTHING;
+    }
+    station->held = block;
+    station->second = (uint8_t)second;
+    return moves(station, PLACE_SENDING, block);
+}
+
 /* Text gives that block, nothing beta beta beta, over figures + ?, end alpha
- * alpha alpha and Ending.  A call gives beta beta beta and is not taken. */
+ * alpha alpha and Ending.  A call gives beta beta beta and is not taken.  All of them
+ * wait while an answer is owed. */
 static inline step_answer takes(struct station *station, uint64_t offer,
                                 unsigned second)
 {
@@ -579,6 +653,8 @@ static inline step_answer takes(struct station *station, uint64_t offer,
     unsigned kind = (unsigned)(offer >> 56);
     uint32_t block = GIVEN[kind] | ((uint32_t)offer & WORDS[kind]);
 
+    if (UNLIKELY(station->owed != OWED_NOTHING))
+        return takes_owed(station, second);
     station->held = block;
     station->place = kind == OFFER_END ? PLACE_ENDING : PLACE_SENDING;
     station->second = (uint8_t)second;
@@ -797,6 +873,9 @@ step_answer plain_step(struct station *station, uint32_t burst, uint64_t offer)
         return step_refused(station, offer);
     if (UNLIKELY(offer >> 56 >= OFFER_CALL && call_outside(station, offer) < ALL_INSIDE))
         return step_refused(station, offer);
+    if (UNLIKELY(station->owed | station->code.length)
+        && UNLIKELY(owes_past(station) || !passes(&station->code)))
+        return step_refused(station, offer);
 
     switch (station->place) {
     case PLACE_SENDING:
@@ -806,8 +885,10 @@ step_answer plain_step(struct station *station, uint32_t burst, uint64_t offer)
             return takes(station, offer, other);
         if (first == control(second))
             return again(station, (uint32_t)station->held);
-        if (first == WORD_CS3)
+        if (first == WORD_CS3) {
+            station->owed = OWED_NOTHING;
             return moves(station, PLACE_TURNING, TURN);
+        }
         return again(station, RQS);
 
     case PLACE_TURNING:
@@ -841,15 +922,21 @@ step_answer plain_step(struct station *station, uint32_t burst, uint64_t offer)
         if ((e0 & e1 & e2) >> 63) {
             unsigned over = offer >> 56 == OFFER_OVER;
             uint32_t printed = burst == BETAS ? 0 : burst;
-            unsigned state = (station->heard & 3u) << 3;
+            unsigned after0 = (unsigned)(e0 >> ((station->heard & 3u) << 3));
+            unsigned after1 = (unsigned)(e1 >> (after0 & STATE));
+            unsigned after2 = (unsigned)(e2 >> (after1 & STATE));
+            unsigned state = after2 & STATE;
+            unsigned asked = (after0 | after1 | after2) & ASKED;
             unsigned turns;
 
-            state = (unsigned)(e0 >> state) & STATE;
-            state = (unsigned)(e1 >> state) & STATE;
-            state = (unsigned)(e2 >> state) & STATE;
             if (UNLIKELY(((e0 | e1 | e2) >> 62 & 1) & (printed != 0)))
                 printed = without_beta(burst);
-            turns = over | state >> 5;
+            if (UNLIKELY(asked)) {
+                station->owed = state >> 5 ? OWED_KEEP : OWED_BACK;
+                station->index = 0;
+                over = 0;
+            }
+            turns = over | state >> 5 | asked;
             station->heard = state >> 3 & 3;
             station->second = (uint8_t)other;
             station->count = 0;

@@ -1,8 +1,8 @@
 /* not proved: for comparison only */
 
 /* Radio-telex logic after ITU-R M.625 (SITOR), as narrowed by paper 01 and changed
- * by 02 (T-01, T-02, T-05).  The proved calls are in crates/; docs/COST.md says what this C is
- * compared for.
+ * by 02 (T-01, T-02, T-05, T-06).  The proved calls are in crates/; docs/COST.md says what
+ * this C is compared for.
  *
  * A word is a byte, the unit sent first in bit 0.  A burst is three words in a
  * uint32_t, the first word in the low byte, the top byte zero.
@@ -20,6 +20,7 @@
 enum {
     WORD_ALPHA = 15, WORD_BETA = 51, WORD_RQ = 102,
     WORD_CS1 = 101, WORD_CS2 = 106, WORD_CS3 = 89, WORD_CS4 = 53, WORD_CS5 = 105,
+    WORD_FIGURES = 54, WORD_PLUS = 99, WORD_QUERY = 114,    /* an over */
     WORD_ERROR = 255                    /* the error mark in a list of signals */
 };
 
@@ -91,7 +92,20 @@ static inline uint64_t seven_of(uint32_t four, uint32_t three)
     return four | (uint64_t)three << 32;
 }
 
-/* A field that the place does not carry has no meaning and is not cleared. */
+/* An answer-back code: the words below the length count, and no others. */
+enum { MOST_CODE = 20, CODE_WORDS = 21 };
+
+struct code {
+    uint8_t length;
+    uint8_t words[CODE_WORDS];
+};
+
+/* What is owed of an answer-back: BACK where the direction is turned back behind it,
+ * KEEP where it is kept. */
+enum { OWED_NOTHING, OWED_BACK, OWED_KEEP };
+
+/* A field that the place does not carry has no meaning and is not cleared; nor has
+ * `index` where nothing is owed. */
 struct station {
     uint64_t held;      /* Sending: the block; Calling of either kind, Identifying: the
                            identity called; Answering: the signals gathered */
@@ -113,6 +127,9 @@ struct station {
     uint8_t heard3;     /* Stand-by: HEARD_NONE to HEARD_2_3 */
     uint8_t stage;      /* Identifying, Answering: 0 stage 1, 3 stage 4 */
     uint8_t wrong;      /* Identifying: the wrong check-sums counted at this stage */
+    uint8_t owed;       /* OWED_NOTHING to OWED_KEEP */
+    uint8_t index;      /* of the block owed, from 0 */
+    struct code code;   /* the own answer-back code */
 };
 
 /* An offer: its kind in bits 56 to 63, the words of a text or the identity of a
@@ -144,7 +161,11 @@ answer plain_standing_by(struct station *station, uint32_t identity);
 answer plain_standing_by_both(struct station *station, uint32_t identity,
                               uint64_t seven);
 
-/* Refusals 8, 4, 3. */
+/* The station with that code, owing nothing.  Refusal 9: then the station is left as
+ * it is. */
+answer plain_with_code(struct station *station, const struct code *code);
+
+/* Refusals 8, 4, 9, 3. */
 step_answer plain_step(struct station *station, uint32_t burst, uint64_t offer);
 
 /* --- The receiver of mode B --- */

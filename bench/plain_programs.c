@@ -148,7 +148,12 @@ static const char *const CASES[2] = { "letters", "figures" };
 
 /* --- steps --- */
 
-enum { RECORD = 60 };
+enum { RECORD = 84 };
+
+static int same_code(const struct code *one, const struct code *two)
+{
+    return one->length == two->length && memcmp(one->words, two->words, CODE_WORDS) == 0;
+}
 
 static int same_station(const struct station *one, const struct station *two)
 {
@@ -159,13 +164,23 @@ static int same_station(const struct station *one, const struct station *two)
            && one->heard == two->heard && one->slave == two->slave
            && one->cycles == two->cycles && one->last == two->last
            && one->heard3 == two->heard3 && one->stage == two->stage
-           && one->wrong == two->wrong;
+           && one->wrong == two->wrong && one->owed == two->owed
+           && one->index == two->index && same_code(&one->code, &two->code);
 }
 
 /* Seven signals of a record, the last three of which stand apart. */
 static uint64_t seven_at(const uint8_t *four, const uint8_t *three)
 {
     return seven_of((uint32_t)low_first(four, 4), (uint32_t)low_first(three, 3));
+}
+
+/* A record has the length of a code and its first 20 words. */
+static struct code code_at(const uint8_t *bytes)
+{
+    struct code code = { .length = bytes[0] };
+
+    memcpy(code.words, bytes + 1, 20);
+    return code;
 }
 
 static struct station station_of(const uint8_t *r)
@@ -177,7 +192,8 @@ static struct station station_of(const uint8_t *r)
         .total = r[6], .count = r[7],
         .heard = (r[8] % 2 ? HEARD_FIGURES : 0) | (r[9] % 2 ? HEARD_PLUS : 0),
         .slave = r[0] % 2, .cycles = r[17], .last = r[18] % 3,
-        .heard3 = r[45] % 5, .stage = r[46] % 4, .wrong = r[47]
+        .heard3 = r[45] % 5, .stage = r[46] % 4, .wrong = r[47],
+        .owed = r[81] % 3, .index = r[82], .code = code_at(r + 60)
     };
 
     if (s.place == PLACE_SENDING)
@@ -213,6 +229,7 @@ static void put_step(const struct station *s, step_answer given)
         "lost", "calling", "calling3", "identifying", "answering"
     };
     static const char *const OTHERS[4] = { " nobody", " four", " seven", " barred" };
+    static const char *const OWED[3] = { "none", "back", "keep" };
     int numbered = s->place == PLACE_SENDING || s->place == PLACE_TURNING
                    || s->place == PLACE_ENDING || s->place == PLACE_RECEIVING;
     int calls = s->place == PLACE_STANDBY || s->place == PLACE_CALLING;
@@ -234,6 +251,7 @@ static void put_step(const struct station *s, step_answer given)
         staged ? s->stage + 1 : 0, identifying ? s->wrong : 0, identifying ? s->last : 0);
     put_words("", staged || s->place == PLACE_CALLING3 ? s->held : 0, 0, 7);
     put_words("", s->known == OTHER_FOUR ? 0 : other, 4, 3);
+    put(" | %s %d", OWED[s->owed % 3], s->owed == OWED_NOTHING ? 0 : s->index);
 }
 
 static void steps(void)
@@ -251,8 +269,8 @@ static void steps(void)
             continue;
         }
         put_step(&s, given);
-        put("%s\n", s.own == was.own && s.own7 == was.own7
-                    ? "" : " and an own identity changed");
+        put("%s\n", s.own == was.own && s.own7 == was.own7 && same_code(&s.code, &was.code)
+                    ? "" : " and an own identity or the code changed");
     }
 }
 
@@ -366,7 +384,8 @@ struct short_text {
 
 static const struct short_text NAMES[256] = {
     [WORD_CS1] = { "CS1", 3 }, [WORD_CS2] = { "CS2", 3 }, [WORD_CS3] = { "CS3", 3 },
-    [WORD_RQ] = { "RQ", 2 }, [WORD_ALPHA] = { "alpha", 5 }, [WORD_BETA] = { "beta", 4 }
+    [WORD_RQ] = { "RQ", 2 }, [WORD_ALPHA] = { "alpha", 5 }, [WORD_BETA] = { "beta", 4 },
+    [WORD_FIGURES] = { "figures", 7 }, [WORD_PLUS] = { "Z", 1 }, [WORD_QUERY] = { "B", 1 }
 };
 
 static inline void put_short(struct short_text text)
@@ -472,6 +491,7 @@ static size_t head_of(uint8_t kind)
     case 'R': return 11;
     case 'I': return 5;
     case 'J': return 12;
+    case 'C': return 22;
     default: return 0;
     }
 }
@@ -526,6 +546,26 @@ static void call_standing_by(const uint8_t *r)
     answer given = r[0] == 'J' ? plain_standing_by_both(&s, four, seven)
                                : plain_standing_by(&s, four);
 
+    if (answer_refusal(given) != 0)
+        put("refused %u %u%s\n", answer_refusal(given), answer_value(given),
+               same_station(&s, &was) ? "" : " and changed");
+    else
+        put("ok%s\n", same_station(&s, &wanted) ? "" : " and another station");
+}
+
+/* Of a fresh slave but for what it owes, so that what it owes is seen to be dropped. */
+static void call_with_code(const uint8_t *r)
+{
+    struct code code = code_at(r + 1);
+    struct station s = plain_fresh_slave();
+    struct station wanted = s;
+    struct station was;
+    answer given;
+
+    wanted.code = code;
+    s.owed = OWED_BACK;
+    was = s;
+    given = plain_with_code(&s, &code);
     if (answer_refusal(given) != 0)
         put("refused %u %u%s\n", answer_refusal(given), answer_value(given),
                same_station(&s, &was) ? "" : " and changed");
@@ -607,6 +647,7 @@ static void calls(void)
         case 'R': call_receive(r); break;
         case 'I':
         case 'J': call_standing_by(r); break;
+        case 'C': call_with_code(r); break;
         default: call_text(r, room_length, length); break;
         }
         at += head + length;

@@ -7,7 +7,7 @@
 
 #include "small.h"
 
-enum { WORD_LETTERS = 90, WORD_FIGURES = 54, WORD_BLANK = WORD_CS2 };
+enum { WORD_LETTERS = 90, WORD_BLANK = WORD_CS2 };
 
 /* A signal's word and what it prints in letters and in figures, 0 for nothing; its
  * number is its place, counted from 1.  Two things in the figure column have no

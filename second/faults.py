@@ -439,8 +439,8 @@ fault("a shift to figures in figures leaves the +", "steps, hear", "station",
       "            case = \"figures\"\n            plus = False",
       "            plus = plus and case == \"figures\"\n            case = \"figures\"")
 fault("other signals do not cancel the +", "steps, hear", "station",
-      "        else:\n            plus = False\n    return case, plus, over",
-      "    return case, plus, over")
+      "        else:\n            plus = False\n    return case, plus, over, asked",
+      "    return case, plus, over, asked")
 fault("the over is heard only at the end of a block", "steps, hear", "station",
       "            over = over or plus\n", "            over = over or plus\n"
       "            over = over and word is block[2]\n")
@@ -569,7 +569,8 @@ SILENT_THERE = """    return Row(Answer(station._replace(cycles=left, last=heard
                       SILENCE, (), False), False)
 """
 PLACES_CALL = "    if offer.kind == \"call\" and station.cycles == 0:\n"
-BEGUN = "return station._replace(case=\"letters\", plus=False, other_end=None)"
+BEGUN = ("    return station._replace(case=\"letters\", plus=False, other_end=None, "
+         "owed=None)\n")
 
 fault("a call answered: the role is not changed", "steps", "station",
       ANSWERS_CALL, "begin_call(at(station, RECEIVING, 1))")
@@ -591,11 +592,11 @@ fault("no call is answered where one is offered", "steps", "station",
       HEARS_CALL, "    if heard != 0 and station.last == other(heard) and not (\n"
       "            offer.kind == \"call\" and station.cycles == 0):\n")
 fault("a call begun: the case stays", "steps", "station",
-      BEGUN, "return station._replace(plus=False, other_end=None)")
+      BEGUN, BEGUN.replace("case=\"letters\", ", ""))
 fault("a call begun: a + stays heard", "steps", "station",
-      BEGUN, "return station._replace(case=\"letters\", other_end=None)")
+      BEGUN, BEGUN.replace("plus=False, ", ""))
 fault("a call begun: who was at the other end stays", "steps", "station",
-      BEGUN, "return station._replace(case=\"letters\", plus=False)")
+      BEGUN, BEGUN.replace("other_end=None, ", ""))
 
 fault("Stand-by is silent for good", "steps", "station",
       "    STANDBY: standby,\n", "    STANDBY: lost,\n")
@@ -1614,6 +1615,258 @@ fault("a call of seven offered at Receiving turns the direction", "steps", "stat
       "        if over or offer.kind == \"over\":\n",
       "        if over or offer.kind in (\"over\", \"call of seven\"):\n")
 
+# --- The station: the answer-back (02, T-06) ---
+
+# Of `listen`.
+HEARS_D = "        elif case == \"figures\" and word == WHO_ARE_YOU:\n"
+ASKED = "            asked = True\n            plus = False\n"
+# Of `receiving`.
+READS_BLOCK = ("        case, plus, over, asked = listen(station.case, station.plus, "
+               "burst)\n")
+IF_ASKED = "        if asked:\n"
+KEEP_OR_BACK = "            owed = Owed(\"keep\" if over else \"back\", 0)\n"
+TURNS_TO_ANSWER = """            return Row(Answer(at(heard, ASKING)._replace(owed=owed), single(CS3),
+                              printed, False), True)
+"""
+# Of `answer_blocks`.
+CODE_IN_THREES = "    for start in range(0, code.length, 3):\n"
+FILLED = "        blocks.append(signals + (BETA,) * (3 - len(signals)))\n"
+TWO_OF_BETA = "    blocks.extend((BETAS, BETAS))\n"
+OVER_BEHIND = "    if kind == \"back\":\n        blocks.append(OVER)\n"
+# Of `take` and `take_owed`.
+IF_OWED = "    if station.owed is not None:\n        return take_owed(station, number)\n"
+OWED_BLOCK = "    block = blocks[index]\n"
+MORE_OWED = "    if index + 1 < len(blocks):\n        owed = Owed(kind, index + 1)\n"
+SENDS_OWED = "    answering_back = at(station, SENDING, number, held=block)._replace(owed=owed)\n"
+NOT_TAKEN = "    return Answer(answering_back, block, (), False)\n"
+# Of `sending`, and of `at`.
+DROPS = "        station = station._replace(owed=None)\n"
+RESTS_OWING = "    owed = station.owed\n    if place == STANDBY:\n        owed = None\n"
+# Of the refusals, in their order.
+INDEX_JUDGED = """    if station.owed is not None:
+        # 02, T-06: "the station's shape and 01's test of it change": a block is owed
+        # that the answer does not have.
+        if station.owed.index >= len(answer_blocks(station.code, station.owed.kind)):
+            return Refused(4, 0)
+"""
+CODE_JUDGED = "    if not code_passes(station.code):\n        return Refused(9, 0)\n"
+TEXT_JUDGED = """    if offer.kind == "text":
+        for index, word in enumerate(offer.words):
+            if not may_stand_in_block(word):
+                return Refused(3, index)
+"""
+# Of `code_passes`.
+TOO_LONG = "    if code.length > MOST_OF_CODE:\n        return False\n"
+IN_THE_CODE = "    signals = code.words[:code.length]\n    for word in signals:\n"
+NO_TRAFFIC = "        if not is_traffic(word):\n            return False\n    for case"
+EITHER_CASE = "    for case in (\"letters\", \"figures\"):\n"
+JUDGED_CASE = "        _, _, over, asked = listen(case, False, signals)\n"
+HOLDS = "        if over or asked:\n"
+
+fault("D in figures is only printed", "steps, hear", "station",
+      IF_ASKED, "        if False:\n")
+fault("D in letters is answered too", "steps, hear", "station",
+      HEARS_D, "        elif word == WHO_ARE_YOU:\n")
+fault("D in figures does not cancel the +", "steps, hear", "station",
+      ASKED, "            asked = True\n")
+fault("D is answered by the case before the block", "steps, hear", "station",
+      READS_BLOCK, READS_BLOCK
+      + "        asked = station.case == \"figures\" and WHO_ARE_YOU in burst\n")
+fault("D is answered only at the end of a block", "steps, hear", "station",
+      ASKED, "            asked = word is block[-1]\n            plus = False\n")
+fault("the block with D is not printed", "steps, hear", "station",
+      TURNS_TO_ANSWER, TURNS_TO_ANSWER.replace("printed, False", "(), False"))
+fault("D is answered by CS1 or CS2, and sends at once", "steps, hear", "station",
+      TURNS_TO_ANSWER, TURNS_TO_ANSWER.replace("single(CS3)",
+                                               "single(CONTROL[next_number])"))
+fault("the block with D: an over offered is taken", "steps", "station",
+      TURNS_TO_ANSWER, TURNS_TO_ANSWER.replace("printed, False",
+                                               "printed, offer.kind == \"over\""))
+fault("the block with D: an over offered comes before the answer", "steps", "station",
+      IF_ASKED, "        if asked and offer.kind != \"over\":\n")
+fault("the block with D: an over offered keeps the direction", "steps", "station",
+      KEEP_OR_BACK, KEEP_OR_BACK.replace("if over", "if over or offer.kind == \"over\""))
+fault("the block with D cancels the + behind it", "steps", "station",
+      TURNS_TO_ANSWER, TURNS_TO_ANSWER.replace("_replace(owed=owed)",
+                                               "_replace(owed=owed, plus=False)"))
+fault("the block with D leaves the case as it was", "steps, hear", "station",
+      TURNS_TO_ANSWER, TURNS_TO_ANSWER.replace(
+          "_replace(owed=owed)", "_replace(owed=owed, case=station.case)"))
+# A station without a code that is offered nothing sends the same without an answer:
+# `hear` cannot tell this one.
+fault("an over and D in one block: no answer", "steps", "station",
+      IF_ASKED, "        if asked and not over:\n")
+fault("an over in the block with D does not keep the direction", "steps, hear",
+      "station", KEEP_OR_BACK, "            owed = Owed(\"back\", 0)\n")
+fault("the direction is always kept", "steps, hear", "station",
+      KEEP_OR_BACK, "            owed = Owed(\"keep\", 0)\n")
+fault("the direction is kept only where the over stands behind D", "steps, hear",
+      "station", ASKED, ASKED + "            over = False\n")
+fault("the direction is kept only where the + is in the same block", "steps, hear",
+      "station", KEEP_OR_BACK,
+      KEEP_OR_BACK.replace("if over", "if over and PLUS in burst"))
+fault("the answer begins with its second block", "steps", "station",
+      KEEP_OR_BACK, KEEP_OR_BACK.replace(", 0)", ", 1)"))
+fault("a question while an answer is owed goes on with that", "steps", "station",
+      KEEP_OR_BACK, KEEP_OR_BACK + "            owed = station.owed or owed\n")
+fault("an accepted block without D drops what is owed", "steps", "station",
+      "        if over or offer.kind == \"over\":\n",
+      "        heard = heard._replace(owed=None)\n"
+      "        if over or offer.kind == \"over\":\n")
+
+fault("the answer has one block of beta", "steps, hear", "station",
+      TWO_OF_BETA, "    blocks.extend((BETAS,))\n")
+fault("the answer has three blocks of beta", "steps, hear", "station",
+      TWO_OF_BETA, "    blocks.extend((BETAS, BETAS, BETAS))\n")
+fault("a code with beta in its last block has one block of beta less", "steps",
+      "station", TWO_OF_BETA,
+      "    blocks.extend((BETAS, BETAS)[code.length % 3 > 0:])\n")
+fault("the blocks of beta stand before the code", "steps", "station",
+      TWO_OF_BETA, "    blocks[:0] = (BETAS, BETAS)\n")
+fault("the over is left out of the answer", "steps, hear", "station", OVER_BEHIND, "")
+fault("the over is sent though the direction is kept", "steps, hear", "station",
+      OVER_BEHIND, "    blocks.append(OVER)\n")
+fault("the over of the answer is without figures", "steps, hear", "station",
+      OVER_BEHIND, OVER_BEHIND.replace("OVER", "(PLUS, QUERY, BETA)"))
+fault("the last block of a code is filled with blanks", "steps", "station",
+      FILLED, FILLED.replace("(BETA,)", "(CS2,)"))
+fault("the last block of a code has what is behind its length", "steps", "station",
+      "code.words[start:min(start + 3, code.length)]", "code.words[start:start + 3]")
+fault("a code of 20 is sent without its last signal", "steps", "station",
+      "code.words[start:min(start + 3, code.length)]",
+      "code.words[start:min(start + 3, code.length, 19)]")
+
+fault("owed blocks are not sent", "steps, hear", "station", IF_OWED, "")
+fault("an end goes before what is owed", "steps", "station",
+      IF_OWED, IF_OWED.replace("None:", "None and offer.kind != \"end\":"))
+fault("an over offered goes before what is owed", "steps", "station",
+      IF_OWED, IF_OWED.replace("None:", "None and offer.kind != \"over\":"))
+fault("Calling takes the offer though a block is owed", "steps", "station",
+      "        return Row(take(reached, offer, heard), False)\n",
+      "        return Row(take(reached._replace(owed=None), offer, heard), False)\n")
+fault("Identifying takes the offer though a block is owed", "steps", "station",
+      "            return Row(take(known, offer, 1), False)\n",
+      "            return Row(take(known._replace(owed=None), offer, 1), False)\n")
+fault("blocks of the answer are reported as taken", "steps", "station",
+      NOT_TAKEN, NOT_TAKEN.replace("False", "True"))
+fault("the last block of the answer takes the offer", "steps", "station",
+      NOT_TAKEN, NOT_TAKEN.replace("False", "owed is None"))
+fault("the block behind the one owed is sent", "steps", "station",
+      OWED_BLOCK, "    block = blocks[min(index + 1, len(blocks) - 1)]\n")
+fault("what is owed does not move on", "steps, hear", "station",
+      MORE_OWED, MORE_OWED.replace("Owed(kind, index + 1)", "Owed(kind, index)"))
+fault("the last block of the answer is not sent", "steps, hear", "station",
+      MORE_OWED, MORE_OWED.replace("index + 1 <", "index + 2 <"))
+fault("a block past the last is owed", "steps", "station",
+      MORE_OWED, MORE_OWED.replace("index + 1 <", "index <"))
+fault("behind its first block an answer turns back", "steps", "station",
+      MORE_OWED, MORE_OWED.replace("Owed(kind,", "Owed(\"back\","))
+fault("owed blocks are sent and not held", "steps, hear", "station",
+      SENDS_OWED, SENDS_OWED.replace("held=block", "held=BETAS"))
+
+fault("what is owed is sent after CS3", "steps, hear", "station", DROPS, "")
+fault("a repetition at Sending drops what is owed", "steps", "station",
+      "        return Row(Answer(station, station.held, (), False), False)\n",
+      "        return Row(Answer(station._replace(owed=None), station.held, (), False),\n"
+      "                   False)\n")
+fault("CS3 at the end of identification drops what is owed", "steps", "station",
+      ID_TURNS, ID_TURNS.replace("at(known, TURNING, 2)",
+                                 "at(known, TURNING, 2)._replace(owed=None)"))
+fault("a turn drops what is owed", "steps, hear", "station",
+      "at(station, OPENING)._replace(plus=False)",
+      "at(station, OPENING)._replace(plus=False, owed=None)")
+fault("Lost owes nothing", "steps", "station",
+      RESTS_OWING, RESTS_OWING.replace("== STANDBY", "in (STANDBY, LOST)"))
+fault("entering Stand-by: what is owed stays", "steps", "station",
+      RESTS_OWING, "    owed = station.owed\n")
+fault("Stand-by that stays owes nothing", "steps", "station",
+      SILENT_THERE, SILENT_THERE.replace("last=heard", "last=heard, owed=None"))
+fault("a call placed: what is owed stays", "steps", "station",
+      BEGUN, BEGUN.replace("owed=None", "owed=station.owed if station.master else None"))
+fault("a call answered: what is owed stays", "steps", "station",
+      BEGUN, BEGUN.replace("owed=None", "owed=None if station.master else station.owed"))
+
+fault("station: refusal 4 of the index gone", "steps", "station",
+      INDEX_JUDGED, "    if station.owed is not None and station.owed.index >= len(\n"
+      "            answer_blocks(station.code, station.owed.kind)):\n"
+      "        station = station._replace(owed=None)\n")
+fault("station: an index one past the last passes", "steps", "station",
+      INDEX_JUDGED, INDEX_JUDGED.replace(".index >=", ".index >"),
+      (OWED_BLOCK, "    block = (blocks + [BETAS])[index]\n"))
+fault("station: the index of the last block is refused", "steps", "station",
+      INDEX_JUDGED, INDEX_JUDGED.replace(".index >=", ".index + 1 >="))
+fault("station: the index is judged as of an answer that turns back", "steps",
+      "station", INDEX_JUDGED, INDEX_JUDGED.replace("station.owed.kind", "\"back\""),
+      (OWED_BLOCK, "    block = (blocks + [BETAS])[index]\n"))
+fault("station: the index is judged where blocks are sent alone", "steps", "station",
+      INDEX_JUDGED, INDEX_JUDGED.replace(
+          "is not None:\n        # 02", "is not None and station.place in (\n"
+          "            SENDING, OPENING, CALLING, IDENTIFYING):\n        # 02"))
+fault("station: over 20 signals the answer counts as of 20", "steps", "station",
+      INDEX_JUDGED, INDEX_JUDGED.replace(
+          "station.code, station", "\n                station.code._replace(length=min("
+          "station.code.length, 20)), station"))
+fault("station: refusal 9 gone", "steps", "station", CODE_JUDGED, "")
+fault("station: refusal 9 before 4", "steps", "station",
+      CODE_JUDGED, "", (COUNT_JUDGED, CODE_JUDGED + COUNT_JUDGED))
+fault("station: refusal 9 before 8", "steps", "station",
+      CODE_JUDGED, "", (REFUSES_8, CODE_JUDGED + REFUSES_8))
+fault("station: refusal 9 behind 3", "steps", "station",
+      CODE_JUDGED, "", (TEXT_JUDGED, TEXT_JUDGED + CODE_JUDGED))
+fault("station: refusal 3 before 4 of the index", "steps", "station",
+      TEXT_JUDGED, "", (INDEX_JUDGED, TEXT_JUDGED + INDEX_JUDGED))
+fault("station: refusal 9 only where something is owed", "steps", "station",
+      CODE_JUDGED, CODE_JUDGED.replace("if not", "if station.owed is not None and not"))
+fault("station: refusal 9 not at Lost", "steps", "station",
+      CODE_JUDGED, CODE_JUDGED.replace("if not", "if station.place != LOST and not"))
+fault("station: refusal 4 for 9", "steps", "station",
+      CODE_JUDGED, CODE_JUDGED.replace("Refused(9", "Refused(4"))
+fault("station: refusal 9 tells the length", "steps", "station",
+      CODE_JUDGED, CODE_JUDGED.replace("9, 0", "9, station.code.length"))
+
+fault("a code of 21 signals passes", "steps, calls C", "station",
+      "MOST_OF_CODE = 20\n", "MOST_OF_CODE = 21\n",
+      (NO_TRAFFIC, NO_TRAFFIC.replace("(word):", "(word) and word != 0:")))
+fault("a code of 20 signals is refused", "steps, calls C", "station",
+      TOO_LONG, TOO_LONG.replace(" > ", " >= "))
+fault("a code: words that are no traffic pass", "steps, calls C", "station",
+      NO_TRAFFIC, "        pass\n    for case")
+fault("a code: beta passes", "calls C", "station",
+      NO_TRAFFIC, NO_TRAFFIC.replace("is_traffic", "may_stand_in_block"))
+fault("a code: RQ passes", "steps, calls C", "station",
+      NO_TRAFFIC, NO_TRAFFIC.replace("(word):", "(word) and word != RQ:"))
+fault("a code: shifts are refused", "steps, calls C", "station",
+      NO_TRAFFIC, NO_TRAFFIC.replace("(word):", "(word) or word in (LETTERS, FIGURES):"))
+fault("a code: words behind the length are judged", "steps, calls C", "station",
+      IN_THE_CODE, IN_THE_CODE.replace("in signals", "in code.words[:20]"))
+fault("a code: what is behind the length completes an over or asks", "steps, calls C",
+      "station", JUDGED_CASE, JUDGED_CASE.replace("signals)",
+                                                  "code.words[:code.length + 1])"))
+fault("a code: its last word is not judged", "steps, calls C", "station",
+      IN_THE_CODE, IN_THE_CODE.replace("in signals", "in signals[:-1]"))
+fault("a code is judged from letters alone", "steps, calls C", "station",
+      EITHER_CASE, "    for case in (\"letters\",):\n")
+fault("a code: D in figures passes", "steps, calls C", "station",
+      HOLDS, "        if over:\n")
+fault("a code: an over passes", "steps, calls C", "station",
+      HOLDS, "        if asked:\n")
+fault("a code: D in letters is refused too", "steps, calls C", "station",
+      HOLDS, "        if over or WHO_ARE_YOU in signals:\n")
+fault("a code that begins with D passes", "calls C", "station",
+      HOLDS, "        if over or asked and signals[0] != WHO_ARE_YOU:\n")
+fault("a code that ends in + is refused", "steps, calls C", "station",
+      JUDGED_CASE + HOLDS, JUDGED_CASE.replace("_, _,", "_, plus,")
+      + "        if over or asked or plus:\n")
+fault("a code: ? without + is refused", "steps, calls C", "station",
+      JUDGED_CASE, JUDGED_CASE.replace("False, signals", "True, signals"))
+fault("a code: any + and ? is an over", "steps, calls C", "station",
+      HOLDS, "        if over or asked or PLUS in signals and QUERY in signals:\n")
+fault("with code refuses 4 for 9", "calls C", "station",
+      "    if not code_passes(code):\n        return Refused(9, 0)\n",
+      "    if not code_passes(code):\n        return Refused(4, 0)\n")
+fault("with code refuses nothing", "calls C", "station",
+      "    if not code_passes(code):\n        return Refused(9, 0)\n", "")
+
 # --- Mode B: the sender ---
 
 fault("RX goes out four slots later", "send, calls S", "broadcast",
@@ -2021,10 +2274,10 @@ fault("steps: the identity called is that of the call offered", "steps", "progra
       "called = tuple(record[3:7])", "called = tuple(record[28:32])")
 fault("steps: the own identity is shown", "steps", "programs",
       "(role, s.cycles, s.last) + s.called +", "(role, s.cycles, s.last) + s.own +")
-fault("steps: records of 32 bytes", "steps", "programs",
-      "RECORD = 60\n", "RECORD = 32\n")
-fault("steps: records of 56 bytes", "steps", "programs",
-      "RECORD = 60\n", "RECORD = 56\n")
+fault("steps: records of 83 bytes", "steps", "programs",
+      "RECORD = 84\n", "RECORD = 83\n")
+fault("steps: records of 88 bytes", "steps", "programs",
+      "RECORD = 84\n", "RECORD = 88\n")
 fault("steps: a barred identity is read as one that was told", "steps", "programs",
       "    return seven if kind == 2 else mode_a.Barred(seven)\n", "    return seven\n")
 fault("steps: seven signals that were told are read as barred", "steps", "programs",
@@ -2076,13 +2329,42 @@ fault("steps: of seven signals at the other end four are written", "steps", "pro
       "        return \"seven\", other_end\n",
       "        return \"seven\", other_end[:4] + (0, 0, 0)\n")
 fault("steps: the last three of the other end are written before the seven", "steps",
-      "programs", "        + s.seven + signals[4:])", "        + signals[4:] + s.seven)")
+      "programs", "        + s.seven + signals[4:],", "        + signals[4:] + s.seven,")
 fault("steps: the stage is written from 0", "steps", "programs",
       "s.stage, s.wrong, s.last_wrong", "max(s.stage - 1, 0), s.wrong, s.last_wrong")
 fault("steps: the wrong check-sums are written in the other order", "steps", "programs",
       "s.stage, s.wrong, s.last_wrong", "s.stage, s.last_wrong, s.wrong")
 fault("steps: the own identity of seven is shown", "steps", "programs",
-      "        + s.seven + signals[4:])", "        + s.own_seven + signals[4:])")
+      "        + s.seven + signals[4:],", "        + s.own_seven + signals[4:],")
+# 02, T-06.
+READS_CODE = "    return mode_a.Code(fields[0], tuple(fields[1:21]) + (0,))\n"
+READS_KIND = "    kind = record[81] % 3\n"
+READS_OWED = "    return mode_a.Owed(\"back\" if kind == 1 else \"keep\", record[82])\n"
+WRITES_OWED = "        (\"none\", 0) if s.owed is None else s.owed)\n"
+fault("a code: its length is read behind its words", "steps, calls C", "programs",
+      READS_CODE, "    return mode_a.Code(fields[20], tuple(fields[:20]) + (0,))\n")
+fault("a code: only 19 of its words are read", "steps, calls C", "programs",
+      READS_CODE, READS_CODE.replace("fields[1:21]) + (0,)", "fields[1:20]) + (0, 0)"))
+fault("steps: the code is read from byte 56 on", "steps", "programs",
+      "record[60:81]", "record[56:77]")
+fault("steps: what is owed is read modulo 4", "steps", "programs",
+      READS_KIND, READS_KIND.replace("% 3", "% 4"))
+fault("steps: back is read as keep, and keep as back", "steps", "programs",
+      READS_OWED, READS_OWED.replace("kind == 1", "kind == 2"))
+fault("steps: the index owed is read from byte 83", "steps", "programs",
+      READS_OWED, READS_OWED.replace("[82]", "[83]"))
+fault("steps: the index owed is written from 1", "steps", "programs",
+      WRITES_OWED, WRITES_OWED.replace("else s.owed", "else (s.owed.kind, s.owed.index + 1)"))
+fault("steps: what is owed is not written", "steps", "programs",
+      WRITES_OWED, "        (\"none\", 0))\n")
+fault("hear: the words of an over by their figures", "hear", "programs",
+      "PLUS: \"Z\", QUERY: \"B\"", "PLUS: \"+\", QUERY: \"?\"")
+fault("hear: the shift of an over is called letters", "hear", "programs",
+      "FIGURES: \"figures\"", "FIGURES: \"letters\"")
+fault("calls: a record of C has a word more", "calls, calls C", "programs",
+      "    return line, place + 21\n", "    return line, place + 22\n")
+fault("calls: there is no kind C", "calls, calls C", "programs",
+      "            elif kind == b\"C\":\n", "            elif kind == b\"X\":\n")
 fault("steps: a refusal has another part behind it", "steps", "programs",
       "        return \"refused %d %d\\n\" % (answer.number, answer.beside)\n"
       "    s = answer.station\n",
@@ -2316,7 +2598,7 @@ def programs_with(one):
 # --- The inputs, in pieces ---
 
 STEPS_IN_A_PIECE = 50
-CALLS_IN_A_PIECE = 20
+CALLS_IN_A_PIECE = 10
 
 
 def steps_pieces(all_data):

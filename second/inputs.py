@@ -19,7 +19,7 @@ import text
 from refusal import Refused
 from signals import (ALPHA, BETA, CARRIAGE_RETURN, CS1, CS2, CS3, CS4, CS5, FIGURES,
                      IDENTITY_SIGNALS, LETTERS, LINE_FEED, MEANING, PLUS, QUERY,
-                     RQ, check_sum, is_traffic)
+                     RQ, WHO_ARE_YOU, check_sum, is_traffic)
 from station import (ANSWERING, ASKING, CALLING, CALLING_3, ENDING, IDENTIFYING, LOST,
                      OPENING, RECEIVING, SENDING, STANDBY, TURNING)
 
@@ -62,7 +62,7 @@ MARKED = [b"Alles sch\xf6n", b"Alles sch\xc3\xb6n", b"Alles scho\xcc\x88n",
 
 # Words that a rule names, and one mutilated word of each sort.
 NAMED = [CS1, CS2, CS3, RQ, ALPHA, BETA, FIGURES, LETTERS, PLUS, QUERY,
-         CARRIAGE_RETURN, LINE_FEED, 0, 127, 128 + ALPHA, 255]
+         WHO_ARE_YOU, CARRIAGE_RETURN, LINE_FEED, 0, 127, 128 + ALPHA, 255]
 
 
 def cases(name, seed):
@@ -793,11 +793,11 @@ def single(word):
 
 
 IN_BLOCK_MORE = IN_BLOCK + [BETA] * 6 + [FIGURES, PLUS, PLUS, QUERY, QUERY,
-                                         LETTERS]
+                                         LETTERS, WHO_ARE_YOU]
 
 
 def block(draw):
-    """A block a slave accepts, with shifts, + and ? well among its signals."""
+    """A block a slave accepts, with shifts, +, ? and D well among its signals."""
     return tuple(draw.choices(IN_BLOCK_MORE, k=3))
 
 
@@ -955,6 +955,40 @@ def starved_circuit(draw, place, bad):
     return bursts + [any_burst(draw) for _ in range(5)]
 
 
+# "Who are you", alone, behind an over, before one, and the over in the same block.
+QUESTIONS = [[(FIGURES, WHO_ARE_YOU, BETA)], [(BETA, FIGURES, WHO_ARE_YOU)],
+             [(FIGURES, PLUS, PLUS), (QUERY, WHO_ARE_YOU, BETA)],
+             [(FIGURES, PLUS, BETA), (WHO_ARE_YOU, PLUS, QUERY)],
+             [(FIGURES, 71, 86), (WHO_ARE_YOU, WHO_ARE_YOU, WHO_ARE_YOU)],
+             [(FIGURES, WHO_ARE_YOU, PLUS), (QUERY, 71, 86)],
+             [(WHO_ARE_YOU, FIGURES, LETTERS), (BETA, BETA, WHO_ARE_YOU)]]
+
+
+def questioned(draw, question, cuts, chance):
+    """Bursts for a slave that is asked who it is (02, T-06), once for each of the
+    cuts: behind so many blocks of what it sends it hears CS3.  With a chance a burst
+    is damaged."""
+    slave = mode_a.fresh_slave()
+    bursts = []
+    for cut in cuts:
+        waiting = list(question)
+        sent = 0
+        while waiting or slave.place not in (RECEIVING, STANDBY, LOST):
+            burst = helpful_burst(draw, slave)
+            if slave.place == RECEIVING:
+                burst = waiting[0]
+            if slave.place == SENDING:
+                burst = single(CS3 if sent >= cut else (CS2, CS1)[slave.number - 1])
+            if draw.random() < chance:
+                burst = spoilt(draw, burst)
+            elif slave.place == RECEIVING:
+                waiting.pop(0)
+            before, slave = slave, mode_a.step(slave, burst, mode_a.NOTHING).station
+            bursts.append(burst)
+            sent += slave.place == SENDING and slave.number != before.number
+    return bursts
+
+
 def joined(bursts):
     return bytes(word for burst in bursts for word in burst)
 
@@ -1009,6 +1043,11 @@ def hear_cases(draw):
     blocks = [mode_a.call_block_of_seven(mode_a.NO_SEVEN, number) for number in (1, 2, 3)]
     out.append(quickly("three call blocks at Stand-by", joined(
         [(ALPHA, ALPHA, ALPHA)] + blocks * 2)))
+    # The answer-back of a station that has no code, whole and cut.
+    for question in QUESTIONS:
+        for chance in (0, 0.3):
+            out.append(quickly("who are you", joined(
+                questioned(draw, question, (3, 1, 2, 3, 6, 3), chance))))
     # The time-out to the burst, at each place that has one.
     for place in (SENDING, TURNING, OPENING, RECEIVING, ASKING):
         for bad in (30, 31, 32, 33):
@@ -1040,7 +1079,7 @@ STEPS_IN_A_CASE = 20000
 
 # For blocks, with what an over is made of well among it; the first word of a
 # block that is no control signal and no letter of table 3a.
-OVER_PARTS = [PLUS, QUERY, FIGURES, BETA] * 4
+OVER_PARTS = [PLUS, QUERY, FIGURES, BETA] * 4 + [WHO_ARE_YOU] * 2
 BLOCK_FIRST = [word for word in IN_BLOCK if word not in IDENTITY_SIGNALS
                and word not in (CS1, CS2, CS3, CS4, CS5)] + [FIGURES, BETA] * 4
 BLOCK_REST = IN_BLOCK + OVER_PARTS
@@ -1167,15 +1206,121 @@ WRONG = (0, 1, 2, 3, 4, 5, 255)
 USES_OWN_SEVEN = (STANDBY, CALLING_3, IDENTIFYING, ANSWERING)
 
 
+# --- steps: answer-back codes, and what is owed (02, T-06) ---
+
+# What a wrong rule may take for a question or an over in a code, or not: shifts, +, ?
+# and D well among the rest.
+CODE_PARTS = TRAFFIC + [LETTERS, FIGURES, PLUS, QUERY, WHO_ARE_YOU] * 3
+NOT_TRAFFIC = [word for word in WORDS if word not in TRAFFIC]
+# Words that stand in a code without a say, and what is behind its length, or not.
+PLAIN = [word for word in TRAFFIC if word not in (LETTERS, FIGURES, PLUS, QUERY,
+                                                  WHO_ARE_YOU)]
+WORDS_WRITTEN = 20
+
+
+def code_of(draw, signals, length=None):
+    """The 21 bytes of a code: its length, and 20 words, any behind the length."""
+    signals = tuple(signals)[:WORDS_WRITTEN]
+    behind = draw.choices(draw.choice((WORDS, CODE_PARTS, [0])),
+                          k=WORDS_WRITTEN - len(signals))
+    return bytes((len(signals) if length is None else length, *signals, *behind))
+
+
+def passing_code(draw, length=None):
+    """A code that a station may have."""
+    if length is None:
+        length = draw.choice((0, 1, 2, 3, 19, 20, draw.randint(0, 20)))
+    while True:
+        code = code_of(draw, draw.choices(draw.choice((PLAIN, CODE_PARTS, TRAFFIC)),
+                                          k=length))
+        if mode_a.code_passes(programs.read_code(code)):
+            return code
+
+
+# What is told of a code by a few of its signals.  Within plain words, and with what
+# may stand before them.
+CODE_CORNERS = [
+    [WHO_ARE_YOU], [LETTERS, WHO_ARE_YOU], [FIGURES, WHO_ARE_YOU],
+    [LETTERS, FIGURES, WHO_ARE_YOU], [FIGURES, LETTERS, WHO_ARE_YOU],
+    [LETTERS, WHO_ARE_YOU, FIGURES], [LETTERS, WHO_ARE_YOU, FIGURES, WHO_ARE_YOU],
+    [LETTERS, 71, WHO_ARE_YOU, 86], [FIGURES, 71, WHO_ARE_YOU, LETTERS],
+    [PLUS], [QUERY], [PLUS, QUERY], [QUERY, PLUS], [PLUS, PLUS, QUERY],
+    [FIGURES, PLUS, QUERY], [LETTERS, PLUS, QUERY], [LETTERS, PLUS, FIGURES, QUERY],
+    [FIGURES, PLUS, FIGURES, QUERY], [FIGURES, PLUS, LETTERS, QUERY],
+    [FIGURES, PLUS, 71, QUERY], [FIGURES, PLUS, CS2, QUERY], [FIGURES, PLUS, QUERY, 71],
+    [FIGURES, QUERY, PLUS], [FIGURES, PLUS], [LETTERS, FIGURES, PLUS],
+    [FIGURES, PLUS, LETTERS], [LETTERS, PLUS, QUERY, FIGURES],
+    [FIGURES, PLUS, BETA, QUERY], [PLUS, BETA, QUERY], [LETTERS, PLUS, BETA, QUERY],
+    [FIGURES, PLUS, WHO_ARE_YOU, QUERY], [LETTERS, FIGURES], [FIGURES, LETTERS],
+    [BETA], [ALPHA], [RQ], [0], [127], [255], [128 + 71], [128 + WHO_ARE_YOU]]
+
+
+def near_codes(draw):
+    """Codes of each corner: first, last and elsewhere, in codes of several lengths,
+    and behind the length, where nothing is looked at."""
+    for corner in CODE_CORNERS:
+        many = len(corner)
+        for length in (many, many + 1, draw.randint(many + 2, 18), 19, 20):
+            for first in {0, length - many, draw.randint(0, length - many)}:
+                signals = draw.choices(PLAIN, k=length)
+                if draw.random() < 0.2 and first > 0:
+                    signals[draw.randrange(first)] = draw.choice((LETTERS, FIGURES))
+                signals[first:first + many] = corner
+                yield code_of(draw, signals)
+        # All behind the length but for the first of them, or all.
+        for seen in (0, 1):
+            for before in (0, 2, 20 - many):
+                signals = draw.choices(PLAIN, k=before) + corner
+                yield code_of(draw, signals, length=before + min(seen, many - 1))
+
+
+LENGTHS_OVER = (21, 22, 23, 24, 60, 61, 62, 63, 64, 127, 128, 254, 255)
+
+
+def codes_of_any_length(draw):
+    """Plain codes of each length up to 20 and some above."""
+    for length in (*range(21), *LENGTHS_OVER):
+        yield code_of(draw, draw.choices(PLAIN, k=min(length, 20)), length=length)
+
+
+# Codes for records that try other things: drawn once, most of them with some
+# signals.
+def common_codes(draw):
+    """Those that pass, and the same with some that may not."""
+    passing = [bytes(21)] * 40 + [passing_code(draw) for _ in range(150)]
+    return passing, (passing + draw.choices(list(near_codes(draw)), k=6)
+                     + draw.choices(list(codes_of_any_length(draw)), k=4))
+
+
+PASSING_CODES, COMMON_CODES = common_codes(random.Random(GATE_SEED))
+
+
+def blocks_of(length, kind):
+    """How many blocks the answer has."""
+    return (length + 2) // 3 + (3 if kind == "back" else 2)
+
+
+def some_owed(draw, length):
+    """What is owed, most often nothing, else most often a block that is there."""
+    way = draw.random()
+    if way < 0.6:
+        return "none"
+    kind = "back" if way < 0.8 else "keep"
+    if 0.78 < way < 0.82:
+        return mode_a.Owed(kind, int(draw.random() * 256))
+    return mode_a.Owed(kind, int(draw.random() * blocks_of(length, kind)))
+
+
 def record(draw, role, place, number, count, burst, offer, total=None,
            case=None, plus=None, held=None, cycles=None, last=None, own=None,
            other_end=None, called=None, own_seven=None, blocks=None, stage=None,
-           wrong=None, last_wrong=None, seven=None):
-    """A record of 60 bytes.  Only the low part of a field counts, so the rest
+           wrong=None, last_wrong=None, seven=None, code=None, owed=None):
+    """A record of 84 bytes.  Only the low part of a field counts, so the rest
     of its byte is drawn at random; so are fields the place does not carry.
     other_end: an identity of four or of seven signals, one that is barred, or
     "nobody"; called: the identity called at Calling, in the bytes of the words
-    held and of the total."""
+    held and of the total; code: as of `code_of`; owed: a kind and an index, or
+    "none"."""
     if held is None:
         held = draw.choices(IN_BLOCK, k=3)
         if draw.random() < 0.05:
@@ -1219,6 +1364,14 @@ def record(draw, role, place, number, count, burst, offer, total=None,
     elif other_end is not None:
         known = 1 if len(other_end) == 4 else 2
         signals_of_other = (*other_end, *signals_of_other[len(other_end):])
+    if code is None:
+        code = draw.choice(COMMON_CODES)
+    if owed is None:
+        owed = some_owed(draw, code[0])
+    if owed == "none":
+        owed_kind, owed_index = 0, int(draw.random() * 256)
+    else:
+        owed_kind, owed_index = ("back", "keep").index(owed.kind) + 1, owed.index
     return bytes((
         stretched(draw, role, 2), stretched(draw, place, 12),
         stretched(draw, number, 2), *held, total, count,
@@ -1226,7 +1379,8 @@ def record(draw, role, place, number, count, burst, offer, total=None,
         cycles, stretched(draw, last, 3), *own, stretched(draw, known, 4),
         *signals_of_other[:4], *offer[4:8], *own_seven, *signals_of_other[4:],
         *offer[8:], blocks_byte, stage_byte, wrong, last_wrong, *seven,
-        *draw.randbytes(4)))
+        *draw.randbytes(4), *code, stretched(draw, owed_kind, 3), owed_index,
+        *draw.randbytes(1)))
 
 
 def written_out(draw, station, burst, offer):
@@ -1251,7 +1405,9 @@ def written_out(draw, station, burst, offer):
                   stage=carried(station.stage, *programs.HAS_STAGES),
                   wrong=carried(station.wrong, IDENTIFYING),
                   last_wrong=carried(station.last_wrong, IDENTIFYING),
-                  seven=carried(station.seven, *programs.HAS_SEVEN))
+                  seven=carried(station.seven, *programs.HAS_SEVEN),
+                  code=bytes((station.code.length, *station.code.words[:20])),
+                  owed=station.owed or "none")
 
 
 def offered(offer):
@@ -1267,6 +1423,16 @@ def spoilt(draw, burst):
     for index in draw.sample(range(3), draw.choice((1, 1, 2, 3))):
         words[index] = draw.choice(MUTILATED)
     return tuple(words)
+
+
+def that_answers(draw, station, owes=True):
+    """The station with a code, and half of the time with a block owed."""
+    station = mode_a.with_code(station, programs.read_code(passing_code(draw)))
+    if owes and draw.random() < 0.5:
+        kind = draw.choice(("back", "keep"))
+        station = station._replace(owed=mode_a.Owed(
+            kind, draw.randrange(blocks_of(station.code.length, kind))))
+    return station
 
 
 def chain_records(draw, station, most):
@@ -1298,7 +1464,8 @@ def chain_records(draw, station, most):
 
 def circuit_records(draw, most, chance):
     """Steps of a master and a slave in turn, over a circuit with damage."""
-    hearer, sender = mode_a.fresh_master(), mode_a.fresh_slave()
+    hearer, sender = (that_answers(draw, fresh, owes=False) for fresh in (
+        mode_a.fresh_master(), mode_a.fresh_slave()))
     burst = single(CS1)
     for _ in range(most):
         burst = tuple(damaged(draw, burst, chance, MUTILATED))
@@ -1325,15 +1492,15 @@ def long_records(draw):
                     station = station._replace(number=draw.choice((1, 2)))
                 if place == SENDING:
                     station = station._replace(held=block(draw))
-                yield from chain_records(draw, station, 40)
+                yield from chain_records(draw, that_answers(draw, station), 40)
     for place in (IDENTIFYING, ANSWERING):
         for stage in (1, 2, 3, 4):
             for count in (0, 0, 30):
-                yield from chain_records(draw, mode_a.Station(
+                yield from chain_records(draw, that_answers(draw, mode_a.Station(
                     place == IDENTIFYING, place, 0, mode_a.NO_BLOCK, 0, count,
                     draw.choice(("letters", "figures")), draw.random() < 0.5,
                     own=identity(draw), own_seven=identity(draw, 7), stage=stage,
-                    seven=identity(draw, 7)), 40)
+                    seven=identity(draw, 7))), 40)
     for fresh in (mode_a.fresh_master(), mode_a.fresh_slave()):
         for _ in range(10):
             yield from chain_records(draw, fresh, 70)
@@ -1355,6 +1522,7 @@ def long_records(draw):
                     stage=draw.randint(1, 4), wrong=draw.choice(WRONG),
                     last_wrong=draw.choice(IDENTITY_SIGNALS),
                     seven=identity(draw, 7))
+                station = that_answers(draw, station)
                 helpful = helpful_burst(draw, station)
                 offer = offer_of_sort(draw, draw.choice(SORTS))
                 yield written_out(draw, station, helpful, offer)
@@ -1491,7 +1659,8 @@ def call_circuit_records(draw, most, chance):
     the call, the circuit that it leads to, its end, and the next call, over a
     path with damage.  One that is Lost begins anew at Stand-by."""
     names = identity(draw), identity(draw)
-    hearer, sender = (mode_a.standing_by(name) for name in names)
+    hearer, sender = (that_answers(draw, mode_a.standing_by(name), owes=False)
+                      for name in names)
     burst = mode_a.SILENCE
     for number in range(most):
         if number % 2 == 0:
@@ -1503,7 +1672,7 @@ def call_circuit_records(draw, most, chance):
         answer = mode_a.step(hearer, burst, offered(offer))
         station = answer.station
         if station.place == LOST:
-            station = mode_a.standing_by(names[number % 2])
+            station = mode_a.standing_by(names[number % 2])._replace(code=station.code)
         hearer, sender, burst = sender, station, answer.burst
 
 
@@ -1738,7 +1907,8 @@ def calling_three_records(draw):
             yield calls((word, 0, 0), good_offer(draw), cycles=sent)
         for first in (CS1, CS3, CS4, CS5, 0):
             yield calls(single(first), good_offer(draw), cycles=word,
-                        own_seven=identity(draw, 7))
+                        own_seven=identity(draw, 7), code=draw.choice(PASSING_CODES),
+                        owed="none")
 
 
 def wrong_letters(stage, seven, last_wrong):
@@ -1960,7 +2130,8 @@ def identified_circuit_records(draw, most, chance, letters):
     call, over a path with damage, where letters are taken for others too.  One that
     is Lost begins anew at Stand-by; so does what has gone astray."""
     names = both_identities(draw), both_identities(draw)
-    hearer, sender = (mode_a.standing_by_both(*name) for name in names)
+    hearer, sender = (that_answers(draw, mode_a.standing_by_both(*name), owes=False)
+                      for name in names)
     burst = mode_a.SILENCE
     for number in range(most):
         if number % 2 == 0:
@@ -1976,7 +2147,8 @@ def identified_circuit_records(draw, most, chance, letters):
         answer = mode_a.step(hearer, burst, offered(offer))
         station = answer.station
         if station.place == LOST:
-            station = mode_a.standing_by_both(*names[number % 2])
+            station = mode_a.standing_by_both(*names[number % 2])._replace(
+                code=station.code)
         hearer, sender, burst = sender, station, answer.burst
 
 
@@ -2041,11 +2213,254 @@ def all_identification_records(draw):
         yield from crossed_of_seven_records(draw, 40)
 
 
+# --- steps: the answer-back (02, T-06) ---
+
+def question_records(draw):
+    """Receiving hears D: in letters and in figures, with shifts, + and ? in the same
+    block and before it, with each offer; and elsewhere."""
+    place = programs.PLACES.index(RECEIVING)
+
+    def hears(burst, sort, count=0, **fields):
+        return record(draw, draw.randrange(2), place, draw.randrange(2), count, burst,
+                      offer_of_sort(draw, sort), code=passing_code(draw), **fields)
+
+    few = (WHO_ARE_YOU, FIGURES, LETTERS, BETA, PLUS, QUERY, 71)
+    for one in few:
+        for two in few:
+            for three in few:
+                asks = WHO_ARE_YOU in (one, two, three)
+                for case in range(2):
+                    for plus in range(2):
+                        sorts = [OVER]
+                        if asks:
+                            sorts += [NO_OFFER, draw.choice(GOOD_SORTS)]
+                        for sort in sorts:
+                            yield hears((one, two, three), sort, case=case, plus=plus)
+    # At each sort of offer, at the counts around the time-out, and with something
+    # owed already.
+    for burst in ((WHO_ARE_YOU, 71, 86), (FIGURES, WHO_ARE_YOU, BETA),
+                  (WHO_ARE_YOU, PLUS, QUERY), (PLUS, QUERY, WHO_ARE_YOU)):
+        for sort in SORTS:
+            for count in (0, 30, 31, 32):
+                for case in range(2):
+                    yield hears(burst, sort, count, case=case)
+        # Not accepted, by one word.
+        for index in range(3):
+            for word in (ALPHA, RQ, 0, draw.choice(MUTILATED), 128 + WHO_ARE_YOU):
+                for sort in (NO_OFFER, OVER):
+                    spoilt_burst = list(burst)
+                    spoilt_burst[index] = word
+                    yield hears(spoilt_burst, sort, draw.choice((0, 31)), case=1)
+        # At each place.
+        for other_place in range(12):
+            for case in range(2):
+                for sort in (NO_OFFER, OVER, TEXT):
+                    yield record(draw, draw.randrange(2), other_place,
+                                 draw.randrange(2), draw.choice((0, 31)), burst,
+                                 offer_of_sort(draw, sort), case=case,
+                                 code=passing_code(draw))
+    # Each word beside D, and each word first.
+    for word in IN_BLOCK:
+        for burst in ((word, WHO_ARE_YOU, BETA), (BETA, WHO_ARE_YOU, word),
+                      (WHO_ARE_YOU, word, word), (word, word, word)):
+            for case in range(2):
+                yield hears(burst, draw.choice((NO_OFFER, OVER)), case=case)
+
+
+# Where an offer is taken under a number: the place, fields of it, the number, the
+# first word heard.
+TAKING = [
+    (SENDING, {"held": (71, 86, BETA)}, 1, CS2), (SENDING, {"held": (BETA,) * 3}, 0, CS1),
+    (OPENING, {}, 1, CS1), (OPENING, {}, 0, CS2), (CALLING, {"last": 1}, 1, CS1),
+    (CALLING, {"last": 2}, 0, CS2), (IDENTIFYING, {"stage": 4}, 1, CS1)]
+
+
+def owed_records(draw):
+    """Blocks of an answer: each index of codes of each length where a row takes, and
+    one past the last; and what else is heard while something is owed."""
+    def owes(place, number, first, sort, code, owed, count=0, **fields):
+        burst = first if isinstance(first, tuple) else single(first)
+        return record(draw, draw.randrange(2), programs.PLACES.index(place), number,
+                      count, burst, offer_of_sort(draw, sort), code=code, owed=owed,
+                      **{"own_seven": identity(draw, 7), **fields})
+
+    for length in range(21):
+        code = passing_code(draw, length)
+        for kind in ("back", "keep"):
+            for index in range(blocks_of(length, kind) + 1):
+                for place, fields, number, first in TAKING:
+                    yield owes(place, number, first, draw.choice(GOOD_SORTS), code,
+                               mode_a.Owed(kind, index), draw.choice((0, 0, 31)),
+                               **fields)
+        for place, fields, number, first in TAKING:
+            yield owes(place, number, first, draw.choice(GOOD_SORTS), code, "none",
+                       **fields)
+    # With each offer, at the first block, the last ones and one between.
+    for place, fields, number, first in TAKING:
+        for sort in SORTS:
+            for length in (0, draw.randint(1, 20)):
+                for kind in ("back", "keep"):
+                    last = blocks_of(length, kind) - 1
+                    for index in (0, last, last - 1, draw.randint(0, last)):
+                        yield owes(place, number, first, sort,
+                                   passing_code(draw, length),
+                                   mode_a.Owed(kind, index), **fields)
+    # Each place with each kind of burst, each offer, and nothing, back or keep owed.
+    for place in programs.PLACES:
+        for kind_of_burst in KINDS_OF_BURST:
+            for sort in GOOD_SORTS:
+                for kind in ("none", "back", "keep"):
+                    code = passing_code(draw)
+                    owed = kind
+                    if kind != "none":
+                        owed = mode_a.Owed(kind, draw.randrange(
+                            blocks_of(code[0], kind)))
+                    yield owes(place, draw.randrange(2),
+                               burst_of_kind(draw, kind_of_burst), sort, code, owed,
+                               draw.choice((0, 0, 31)), held=draw.choices(IN_BLOCK, k=3)
+                               if place != CALLING else None,
+                               total=draw.randint(1, 4))
+    # Every call that is answered or placed.
+    for kind in ("back", "keep"):
+        for _ in range(10):
+            four, seven = both_identities(draw)
+            for burst, sort, fields in (
+                    (mode_a.call_block(four, 2), NO_OFFER, {"last": 1}),
+                    (mode_a.call_block(four, 1), OVER, {"last": 2}),
+                    (mode_a.call_block_of_seven(seven, 3), NO_OFFER,
+                     {"last": 0, "blocks": (1, 2)}),
+                    (mode_a.call_block_of_seven(seven, 1), OVER,
+                     {"last": 0, "blocks": (2, 3)}),
+                    ((0, 0, 0), CALL, {"last": 0, "cycles": 0}),
+                    ((0, 0, 0), CALL_7, {"last": 0, "cycles": 0}),
+                    ((0, 0, 0), CALL, {"last": 0, "cycles": 1}),
+                    ((0, 0, 0), NO_OFFER, {"last": 0})):
+                code = passing_code(draw)
+                yield owes(STANDBY, 1, burst, sort, code, mode_a.Owed(
+                    kind, draw.randrange(blocks_of(code[0], kind))), own=four,
+                    own_seven=seven, **fields)
+
+
+def code_refusal_records(draw):
+    """Refusals 4 and 9 of the code and of what is owed, and the order 8, 4, 9, 3."""
+    def at_place(place, sort, code, owed, count=0, **fields):
+        number = draw.randrange(2)
+        burst = draw.choice((single(CS1), single(CS2), single(CS3), (71, 86, 71)))
+        return record(draw, draw.randrange(2), place, number, count, burst,
+                      offer_of_sort(draw, sort), code=code, owed=owed, **fields)
+
+    # Each length, with the index around the number of blocks, at some place.
+    for code in codes_of_any_length(draw):
+        for kind in ("back", "keep"):
+            there = blocks_of(code[0], kind)
+            for index in (0, there - 2, there - 1, there, there + 1, 255):
+                yield at_place(draw.randrange(12), draw.choice(GOOD_SORTS), code,
+                               mode_a.Owed(kind, index))
+        yield at_place(draw.randrange(12), draw.choice(GOOD_SORTS), code, "none")
+    # Each corner of a code, at each place one of them.
+    for number, code in enumerate(near_codes(draw)):
+        yield at_place(number % 12, draw.choice(GOOD_SORTS), code, "none")
+    # Each word at some places of a code, and directly behind its length.
+    for word in WORDS:
+        for index in draw.sample(range(20), 4) + [0, 19]:
+            signals = draw.choices(PLAIN, k=draw.randint(index + 1, 20))
+            signals[index] = word
+            yield at_place(draw.randrange(12), NO_OFFER, code_of(draw, signals), "none")
+        length = draw.randrange(20)
+        yield at_place(draw.randrange(12), NO_OFFER, code_of(
+            draw, draw.choices(PLAIN, k=length) + [word], length=length), "none")
+    # All that is refused beside something else that is, at each place.
+    bad_codes = [code_of(draw, [71] * 20, length=21), code_of(draw, [71, BETA]),
+                 code_of(draw, [FIGURES, WHO_ARE_YOU]), code_of(draw, [PLUS, QUERY])]
+    for place in range(12):
+        for sort in (BAD_CALL, BAD_CALL_7, BAD_TEXT, TEXT):
+            for code in bad_codes + [passing_code(draw)]:
+                for wrong in ("nothing", "count", "index", "total", "held"):
+                    kind = draw.choice(("back", "keep"))
+                    index = blocks_of(code[0], kind) - (wrong != "index")
+                    owed = mode_a.Owed(kind, index)
+                    if wrong != "index" and draw.random() < 0.5:
+                        owed = "none"
+                    held = (71, ALPHA if wrong == "held" else 86, BETA)
+                    yield at_place(place, sort, code, owed, 32 * (wrong == "count"),
+                                   held=held, total=5 * (wrong == "total") or 2)
+
+
+def asking_offer(draw):
+    """An offer of one who asks often."""
+    way = draw.random()
+    if way < 0.3:
+        return (1, *draw.choice(draw.choice(QUESTIONS)), *mode_a.NO_SEVEN)
+    sort = draw.choice((NO_OFFER, TEXT, TEXT, OVER))
+    if way > 0.98:
+        sort = draw.choice((END, CALL, CALL_7))
+    return offer_of_sort(draw, sort)
+
+
+def answering_circuit_records(draw, most, chance):
+    """Steps of a master and a slave in turn that ask each other."""
+    own = identity(draw, 7)
+    hearer, sender = (that_answers(draw, fresh, owes=False)._replace(own_seven=own)
+                      for fresh in (mode_a.fresh_master(), mode_a.fresh_slave()))
+    burst = single(CS1)
+    for _ in range(most):
+        burst = tuple(damaged(draw, burst, chance, MUTILATED))
+        offer = asking_offer(draw)
+        yield written_out(draw, hearer, burst, offer)
+        answer = mode_a.step(hearer, burst, offered(offer))
+        hearer, sender, burst = sender, answer.station, answer.burst
+        if STANDBY in (hearer.place, sender.place):
+            return
+
+
+def whole_answer_records(draw, length, question, cut):
+    """A master asks and the slave answers with a code of this length; the master
+    offers an over behind so many blocks of the answer, which cuts it, and nothing
+    before it and behind it."""
+    master = that_answers(draw, mode_a.fresh_master(), owes=False)
+    slave = mode_a.with_code(mode_a.fresh_slave(),
+                             programs.read_code(passing_code(draw, length)))
+    waiting = list(question)
+    heard = 0
+    burst = single(CS1)
+    for _ in range(20 + length // 3):
+        offer = NOTHING_OFFERED
+        if waiting:
+            offer = (1, *waiting[0], *mode_a.NO_SEVEN)
+        elif master.place == RECEIVING and heard == cut:
+            offer = offer_of_sort(draw, OVER)
+        yield written_out(draw, master, burst, offer)
+        answer = mode_a.step(master, burst, offered(offer))
+        if answer.taken and waiting:
+            waiting.pop(0)
+        heard += master.place == RECEIVING
+        master = answer.station
+        offer = offer_of_sort(draw, draw.choice((NO_OFFER, TEXT, OVER, TEXT)))
+        if slave.owed is None and slave.place != SENDING:
+            offer = NOTHING_OFFERED
+        yield written_out(draw, slave, answer.burst, offer)
+        reply = mode_a.step(slave, answer.burst, offered(offer))
+        slave, burst = reply.station, reply.burst
+
+
+def all_answer_back_records(draw):
+    yield from question_records(draw)
+    yield from owed_records(draw)
+    yield from code_refusal_records(draw)
+    for chance in (0, 0, 0, 0.02, 0.05, 0.1, 0.2):
+        for _ in range(4):
+            yield from answering_circuit_records(draw, 120, chance)
+    for length in (0, 1, 3, 19, 20):
+        for cut in (0, 1, blocks_of(length, "back") - 1, 99):
+            for question in QUESTIONS[:4]:
+                yield from whole_answer_records(draw, length, question, cut)
+
+
 def steps_records(draw):
-    """All the records but those of calls, at least 200,000."""
+    """All the records but those of calls and of the answer-back, at least 160,000."""
     yield from long_records(draw)
     # Each place with each kind of burst, each sort of offer, each count.
-    for _ in range(4):
+    for _ in range(3):
         for place in range(12):
             for kind in KINDS_OF_BURST:
                 for sort in SORTS:
@@ -2068,7 +2483,7 @@ def steps_records(draw):
                     yield record(draw, role, place, draw.randrange(2), 0, burst,
                                  NOTHING_OFFERED)
     # The over: all blocks of a few words, from each case, with + and without.
-    few = (PLUS, QUERY, BETA, FIGURES, LETTERS, CS2, 71, ALPHA, 0)
+    few = (PLUS, QUERY, BETA, FIGURES, LETTERS, CS2, 71, ALPHA, WHO_ARE_YOU)
     for one in few:
         for two in few:
             for three in few:
@@ -2098,7 +2513,8 @@ def steps_records(draw):
             yield record(draw, 0, draw.randrange(12), 1, 0, single(CS1),
                          text_offer, held=words)
             yield record(draw, 1, 2, 0, 0, single(CS2), text_offer)
-    # Records of any bytes, with the count below 32 in half of them.
+    # Records of any bytes; of four, two with what is judged in order but for the
+    # text offered, and one with a code that is and an index that there may be.
     for number in range(30000):
         any_bytes = bytearray(draw.randbytes(programs.RECORD))
         if number % 2 == 0:
@@ -2107,13 +2523,16 @@ def steps_records(draw):
             any_bytes[28:32] = bytes(draw.choices(IDENTITY_SIGNALS, k=4))
             any_bytes[32:39] = bytes(draw.choices(IDENTITY_SIGNALS, k=7))
             any_bytes[42:45] = bytes(draw.choices(IDENTITY_SIGNALS, k=3))
+        if number % 4 != 3:
+            any_bytes[60:81] = draw.choice(COMMON_CODES)
+            any_bytes[82] = int(draw.random() * blocks_of(any_bytes[60], "back"))
         yield bytes(any_bytes)
 
 
 def stepped_in(size):
     """Records of which the lines come to `size` bytes."""
     # A printed word over 99 takes a byte more; there are three.
-    accepted = bytes([1, 4, 1, 0, 0, 0, 0, 0, 0, 0, 71, 71, 71] + [0] * 47)
+    accepted = bytes([1, 4, 1, 0, 0, 0, 0, 0, 0, 0, 71, 71, 71] + [0] * 71)
     small = len(programs.steps(accepted)[0])
     number = size // small
     each, more = divmod(size - number * small, number)
@@ -2129,19 +2548,22 @@ def stepped_in(size):
 def steps_cases(draw):
     calls = list(all_call_records(draw))
     identification = list(all_identification_records(draw))
+    answer_back = list(all_answer_back_records(draw))
     records = list(steps_records(draw))
     out = [quickly("empty", b""), slowly("8 records", b"".join(records[:8])),
            in_pieces("200 records", b"".join(records[:200])),
            quickly("calls", b"".join(calls)),
-           quickly("identification", b"".join(identification))]
+           quickly("identification", b"".join(identification)),
+           quickly("answer-back", b"".join(answer_back))]
     out.extend(with_words(records[0]))
     for size in OUTPUT_SIZES:
         out.append(from_file("%d bytes written" % size, stepped_in(size)))
     for size in (BLOCK - 1, BLOCK, BLOCK + 1, 2 * BLOCK):
         out.append(from_file("%d bytes of records" % size,
                              b"".join(records[:300])[:size]))
-    # 17 is the length up to the offer's text, 56 that of what is looked at.
-    for length in (1, 17, 32, 56, 59, 61, 119, 120, 121):
+    # 17 is the length up to the offer's text, 60 that up to the code, 83 that of what
+    # is looked at.
+    for length in (1, 17, 60, 81, 83, 85, 167, 168, 169):
         out.append(quickly("cut to %d bytes" % length,
                            b"".join(records[:3])[:length]))
     for start in range(0, len(records), STEPS_IN_A_CASE):
@@ -2525,7 +2947,34 @@ def both_identities_records(draw):
         yield b"J" + bytes(draw.choices(WORDS, k=11))
 
 
-KINDS = b"EPSMRIJ"
+def code_records(draw):
+    """C records (02, T-06)."""
+    codes = list(near_codes(draw)) + list(near_codes(draw))
+    codes += list(codes_of_any_length(draw))
+    # Each length with words that may not stand in a code.
+    for length in WORDS:
+        codes.append(bytes((length, *draw.choices(WORDS, k=20))))
+    # Each word at each place, and directly behind the length.
+    for word in WORDS:
+        for index in range(20):
+            signals = draw.choices(PLAIN, k=draw.randint(index + 1, 20))
+            signals[index] = word
+            codes.append(code_of(draw, signals))
+        length = draw.randrange(20)
+        codes.append(code_of(draw, draw.choices(PLAIN, k=length) + [word],
+                             length=length))
+    for _ in range(700):
+        codes.append(passing_code(draw))
+        codes.append(code_of(draw, draw.choices(CODE_PARTS, k=draw.randint(1, 20))))
+    # Few words, so that all that a case and a + do is tried.
+    few = (WHO_ARE_YOU, FIGURES, LETTERS, PLUS, QUERY, 71)
+    for _ in range(600):
+        codes.append(code_of(draw, draw.choices(few, k=draw.randint(1, 5))))
+    for code in codes:
+        yield b"C" + code
+
+
+KINDS = b"EPSMRIJC"
 
 
 def hostile_tails(draw):
@@ -2557,7 +3006,8 @@ def hostile_tails(draw):
         yield "length %d" % length, whole + bytes([71]) * length
     for whole in (slot_record(5, [71] * 4), b"M" + bytes([71]),
                   receive_record(draw, run=3, last=1, word=ALPHA),
-                  b"I" + bytes([71] * 4), b"J" + bytes([71] * 11)):
+                  b"I" + bytes([71] * 4), b"J" + bytes([71] * 11),
+                  b"C" + bytes([20] + [71] * 20)):
         for length in range(1, len(whole)):
             yield "record cut to %d" % length, whole[:length]
 
@@ -2570,7 +3020,7 @@ def call_length(data, first):
         return 6 + int.from_bytes(data[first + 4:first + 6], "little")
     if kind == b"S":
         return 7 + int.from_bytes(data[first + 5:first + 7], "little")
-    return {b"M": 2, b"R": 11, b"I": 5, b"J": 12}.get(kind, 0)
+    return {b"M": 2, b"R": 11, b"I": 5, b"J": 12, b"C": 22}.get(kind, 0)
 
 
 def call_records(data):
@@ -2591,10 +3041,15 @@ def calls_at_borders():
     out = []
     for whole in (text_record(b"E", 0, 5, b"A1A"), slot_record(40, [71, 86]),
                   b"I" + bytes([71, 86, 71, 101]),
-                  b"J" + bytes([71, 86, 71, 86, 71, 86, 71, 86, 71, 86, 101])):
+                  b"J" + bytes([71, 86, 71, 86, 71, 86, 71, 86, 71, 86, 101]),
+                  b"C" + bytes([20] + [71, 86] * 9 + [PLUS, QUERY])):
         data = b""
-        for number in range(1, len(whole) + 2):
-            first = BLOCK * number - number
+        # Each byte of a record, of a long one the first, the last and some between.
+        behind = range(1, len(whole) + 2)
+        if len(whole) > 12:
+            behind = (1, 2, 3, 4, 10, 15, 20, 21, 22, 23)
+        for number, bytes_before in enumerate(behind, 1):
+            first = BLOCK * number - bytes_before
             while len(data) % 2 != first % 2:
                 data += text_record(b"P", 1, 0, bytes([71]))
             data += b"MV" * ((first - len(data)) // 2) + whole
@@ -2622,7 +3077,7 @@ def calls_cases(draw):
     records = (list(encode_records(draw)) + list(print_records(draw))
                + list(slot_records(draw)) + list(meaning_records())
                + list(receive_records(draw)) + list(identity_records(draw))
-               + list(both_identities_records(draw)))
+               + list(both_identities_records(draw)) + list(code_records(draw)))
     draw.shuffle(records)
     short = [one for one in records if len(one) < 40]
     out = [quickly("empty", b""), slowly("12 records", b"".join(short[:12])),
@@ -2678,7 +3133,7 @@ def spoken(words, begun):
 SPOKEN = [spoken([71, 101, 86, 116], 40), spoken([86], ONE_RX - 3)]
 
 
-STEP_RECORD = bytes([1, 4, 1, 0, 0, 0, 0, 31, 0, 0, 116, 86, 51] + [0] * 47)
+STEP_RECORD = bytes([1, 4, 1, 0, 0, 0, 0, 31, 0, 0, 116, 86, 51] + [0] * 71)
 
 CONVERSATIONS = {
     # the header comes before anything is read
@@ -2688,7 +3143,8 @@ CONVERSATIONS = {
     "calls": [[b"MV", text_record(b"E", 0, 4, b"A1"), slot_record(36, [86]),
                b"R" + bytes([0, 3, 1, 0, 0, 0, 0, 0, 0, 15]),
                b"R" + bytes([1, 0, 0, 71, 15, 15, 1, 1, 3, 71]), b"I" + bytes([71] * 4),
-               b"J" + bytes([71] * 11), b"M", b"eMA", b"?"]],
+               b"J" + bytes([71] * 11), b"C" + bytes([1, 83] + [0] * 19),
+               b"C" + bytes([1, 71] + [0] * 19), b"M", b"eMA", b"?"]],
     "receive": SPOKEN + [SPOKEN[0] + [b"256 "]],
     "encode": [[b"A" * (text.MOST_CHARACTERS + 1)]],
     "print": [[b"71 ", b"7x "], [b"71 " * (text.MOST_SIGNALS + 1)]],

@@ -11,7 +11,8 @@ import broadcast
 import station as mode_a
 import text
 from refusal import Refused
-from signals import ALPHA, BETA, CS1, CS2, CS3, MEANING, RQ, intact
+from signals import (ALPHA, BETA, CS1, CS2, CS3, FIGURES, MEANING, PLUS, QUERY, RQ,
+                     intact)
 
 WHITE_SPACE = (32, 9, 13, 10)
 WORDS_ON_A_LINE = 16
@@ -93,8 +94,9 @@ def not_a_number(fault):
 
 # --- hear (paper 01, worked examples) ---
 
+# The last three are those of an over, by which an answer turns back (02, T-06).
 NAMES = {CS1: "CS1", CS2: "CS2", CS3: "CS3", RQ: "RQ", ALPHA: "alpha",
-         BETA: "beta"}
+         BETA: "beta", FIGURES: "figures", PLUS: "Z", QUERY: "B"}
 
 
 def name_of_burst(burst):
@@ -178,9 +180,9 @@ def receive(data):
     return write_words(printed), told
 
 
-# --- steps: records of 60 bytes, one step of a station written out ---
+# --- steps: records of 84 bytes, one step of a station written out ---
 
-RECORD = 60
+RECORD = 84
 PLACES = (mode_a.SENDING, mode_a.TURNING, mode_a.OPENING, mode_a.ENDING,
           mode_a.RECEIVING, mode_a.ASKING, mode_a.STANDBY, mode_a.LOST,
           mode_a.CALLING, mode_a.CALLING_3, mode_a.IDENTIFYING, mode_a.ANSWERING)
@@ -215,6 +217,18 @@ def read_offer(record):
     if kind == "call of seven":
         words = record[28:32] + record[42:45]
     return mode_a.Offer(kind, tuple(words))
+
+
+def read_code(fields):
+    """An answer-back code: its length, and the first 20 words of it."""
+    return mode_a.Code(fields[0], tuple(fields[1:21]) + (0,))
+
+
+def read_owed(record):
+    kind = record[81] % 3
+    if kind == 0:
+        return None
+    return mode_a.Owed("back" if kind == 1 else "keep", record[82])
 
 
 def read_step(record):
@@ -256,7 +270,8 @@ def read_step(record):
         plus=record[9] % 2 == 1, own=tuple(record[19:23]),
         other_end=read_other_end(record), cycles=cycles, last=last, called=called,
         own_seven=tuple(record[32:39]), blocks=blocks, stage=stage, wrong=wrong,
-        last_wrong=last_wrong, seven=seven)
+        last_wrong=last_wrong, seven=seven, code=read_code(record[60:81]),
+        owed=read_owed(record))
     return station, tuple(record[10:13]), read_offer(record)
 
 
@@ -285,7 +300,8 @@ def step_line(answer):
         (int(answer.taken),),
         (role, s.cycles, s.last) + s.called + (known,) + signals[:4],
         (mode_a.RUNS_OF_BLOCKS.index(s.blocks), s.stage, s.wrong, s.last_wrong)
-        + s.seven + signals[4:])
+        + s.seven + signals[4:],
+        ("none", 0) if s.owed is None else s.owed)
     return " | ".join(" ".join(map(str, part)) for part in parts) + "\n"
 
 
@@ -452,6 +468,15 @@ def standing_by_both_call(data, place):
     return line, place + 11
 
 
+def with_code_call(data, place):
+    """A `C` record: an answer-back code, given to a fresh slave."""
+    answer = mode_a.with_code(mode_a.fresh_slave(), read_code(cut(data, place, 21)))
+    line = "ok\n"
+    if isinstance(answer, Refused):
+        line = "refused %d %d\n" % (answer.number, answer.beside)
+    return line, place + 21
+
+
 def calls(data):
     lines = []
     told = None
@@ -473,6 +498,8 @@ def calls(data):
                 line, behind = standing_by_call(data, place + 1)
             elif kind == b"J":
                 line, behind = standing_by_both_call(data, place + 1)
+            elif kind == b"C":
+                line, behind = with_code_call(data, place + 1)
             else:
                 raise BadRecord("no such kind")
             lines.append(line)

@@ -86,9 +86,10 @@ CS3 = traffic_word(14)
 CS4 = traffic_word(7)
 CS5 = traffic_word(8)
 
-# In figures case, Z is + and B is ?.
+# In figures case, Z is + and B is ?, and D is "who are you".
 PLUS = traffic_word(26)
 QUERY = traffic_word(2)
+WHO_ARE_YOU = traffic_word(4)
 
 # "The error mark is byte 255 in a list of signals."  It is no word of the code.
 ERROR_MARK = 255

@@ -1,13 +1,14 @@
 """One station of mode A (paper 01, "The station, mode A"; 001, 3.3 to 3.7), its
-calls (paper 02, T-02 and T-05; 001, 3.5) and identification (02, T-05; 001,
-3.6)."""
+calls (paper 02, T-02 and T-05; 001, 3.5), identification (02, T-05; 001, 3.6) and
+the answer-back (02, T-06; 001, 3.7.13)."""
 
 from collections import namedtuple
+from functools import lru_cache
 
 from refusal import Refused
 from signals import (ALPHA, BETA, CS1, CS2, CS3, CS4, CS5, FIGURES, LETTERS, PLUS,
-                     QUERY, RQ, check_sum, is_check_sum_signal, is_identity_signal,
-                     is_traffic)
+                     QUERY, RQ, WHO_ARE_YOU, check_sum, is_check_sum_signal,
+                     is_identity_signal, is_traffic)
 
 # An identity is four words, or seven.  A station without one has zeros.
 NO_IDENTITY = (0, 0, 0, 0)
@@ -17,8 +18,19 @@ NO_SEVEN = (0, 0, 0, 0, 0, 0, 0)
 # call that failed, and that is not to be placed again at once.
 Barred = namedtuple("Barred", "identity")
 
-# A station.  `count`, `case`, `plus`, `own`, `own_seven` and `other_end` are
-# carried at every place:
+# 02, T-06: an answer-back code, so many of its 21 words.  Those behind the length
+# are not looked at.
+Code = namedtuple("Code", "length words")
+WORDS_OF_CODE = 21
+NO_CODE = Code(0, (0,) * WORDS_OF_CODE)
+
+# What is owed of an answer: its kind is "back" where the direction is turned back
+# behind it and "keep" where it is kept, the index that of the block to be sent
+# next, from 0.
+Owed = namedtuple("Owed", "kind index")
+
+# A station.  `count`, `case`, `plus`, `own`, `own_seven`, `other_end`, `code` and
+# `owed` are carried at every place:
 #   master     True for a master, False for a slave
 #   place      one of the twelve below
 #   number     1 or 2: of the block held (Sending), of the last block (Turning),
@@ -47,12 +59,14 @@ Barred = namedtuple("Barred", "identity")
 #   last_wrong the last wrong check-sum, at Identifying; else 0
 #   seven      the identity called, at Calling with three blocks and Identifying;
 #              the signals gathered so far, at Answering; else seven zeros
+#   code       its answer-back code, which no step changes
+#   owed       what is still to be sent of an answer, or None
 Station = namedtuple("Station",
                      "master place number held total count case plus "
                      "own other_end cycles last called "
-                     "own_seven blocks stage wrong last_wrong seven",
+                     "own_seven blocks stage wrong last_wrong seven code owed",
                      defaults=(NO_IDENTITY, None, 0, 0, NO_IDENTITY,
-                               NO_SEVEN, (), 0, 0, 0, NO_SEVEN))
+                               NO_SEVEN, (), 0, 0, 0, NO_SEVEN, NO_CODE, None))
 
 SENDING, TURNING, OPENING, ENDING = "sending", "turning", "opening", "ending"
 RECEIVING, ASKING, STANDBY, LOST = "receiving", "asking", "standby", "lost"
@@ -93,6 +107,8 @@ MOST_CALL_BURSTS = 128
 CYCLES_TO_WAIT = 128
 # 02, T-05: "A block goes out again no more than four times for wrong check-sums"
 MOST_WRONG = 4
+# 02, T-06: "The code has at most 20 signals"
+MOST_OF_CODE = 20
 
 # 001, 3.5.5: "the three call blocks in succession", in these orders; and what may
 # have been heard of them before the last.
@@ -188,7 +204,50 @@ def standing_by_both(identity, seven):
     return standing_by(identity)._replace(own_seven=tuple(seven))
 
 
-# --- Refusals 8, 4 and 3, judged at every place and whatever is heard ---
+def with_code(station, code):
+    """The station with this answer-back code, owing nothing.  Answers Station or
+    Refused."""
+    if not code_passes(code):
+        return Refused(9, 0)
+    return station._replace(code=code, owed=None)
+
+
+# --- The answer-back code and the answer (02, T-06) ---
+
+@lru_cache(maxsize=None)
+def code_passes(code):
+    """02, T-06: "9, a code over 20 signals, with a word that isn't traffic, or
+    holding D in figures or an over from either case"."""
+    if code.length > MOST_OF_CODE:
+        return False
+    signals = code.words[:code.length]
+    for word in signals:
+        if not is_traffic(word):
+            return False
+    for case in ("letters", "figures"):
+        _, _, over, asked = listen(case, False, signals)
+        if over or asked:
+            return False
+    return True
+
+
+@lru_cache(maxsize=None)
+def answer_blocks(code, kind):
+    """The blocks of an answer: "sends its code, then two blocks of beta beta beta,
+    and turns back by an over of its own; if the over stood in the same block, it
+    keeps the direction".  Of a code that fills no whole block the last is filled
+    with beta."""
+    blocks = []
+    for start in range(0, code.length, 3):
+        signals = code.words[start:min(start + 3, code.length)]
+        blocks.append(signals + (BETA,) * (3 - len(signals)))
+    blocks.extend((BETAS, BETAS))
+    if kind == "back":
+        blocks.append(OVER)
+    return blocks
+
+
+# --- Refusals 8, 4, 9 and 3, judged at every place and whatever is heard ---
 
 def refusal_of(station, offer):
     # 02, T-02: "8, an identity signal outside table 3a, checked before all others
@@ -212,6 +271,14 @@ def refusal_of(station, offer):
         for word in station.held:
             if not may_stand_in_block(word):
                 return Refused(4, 0)
+    if station.owed is not None:
+        # 02, T-06: "the station's shape and 01's test of it change": a block is owed
+        # that the answer does not have.
+        if station.owed.index >= len(answer_blocks(station.code, station.owed.kind)):
+            return Refused(4, 0)
+    # "Refusals: 9, ... after 4"
+    if not code_passes(station.code):
+        return Refused(9, 0)
     if offer.kind == "text":
         for index, word in enumerate(offer.words):
             if not may_stand_in_block(word):
@@ -224,8 +291,12 @@ def refusal_of(station, offer):
 def at(station, place, number=0, held=NO_BLOCK, total=0, cycles=0, last=0,
        called=NO_IDENTITY, stage=0, wrong=0, last_wrong=0, seven=NO_SEVEN):
     """The station moved to a place, with what that place carries.  With the move
-    to Stand-by nobody is at the other end any more; an identity that is barred
-    stays so, and has to wait from there on (001, 3.5.4, 3.5.7 and 3.5.8)."""
+    to Stand-by nobody is at the other end any more, and nothing is owed; an identity
+    that is barred stays so, and has to wait from there on (001, 3.5.4, 3.5.7 and
+    3.5.8)."""
+    owed = station.owed
+    if place == STANDBY:
+        owed = None
     other_end = station.other_end
     if place == STANDBY:
         if isinstance(other_end, Barred):
@@ -235,13 +306,16 @@ def at(station, place, number=0, held=NO_BLOCK, total=0, cycles=0, last=0,
     return Station(station.master, place, number, held, total, station.count,
                    station.case, station.plus, station.own, other_end, cycles,
                    last, called, station.own_seven, (), stage, wrong, last_wrong,
-                   seven)
+                   seven, station.code, owed)
 
 
 def take(station, offer, number):
     """01: "Text gives that block, nothing gives beta beta beta, over gives
     figures + ?, end gives alpha alpha alpha and place Ending".  A call of either
-    kind, which only Stand-by takes, gives beta beta beta too and is not taken."""
+    kind, which only Stand-by takes, gives beta beta beta too and is not taken.
+    While an answer is owed its next block is what goes out."""
+    if station.owed is not None:
+        return take_owed(station, number)
     if offer.kind == "end":
         ending = at(station, ENDING, number, total=1)
         return Answer(ending, ALPHAS, (), True)
@@ -253,6 +327,19 @@ def take(station, offer, number):
         block = BETAS
     return Answer(at(station, SENDING, number, held=block), block, (),
                   offer.kind not in CALLS)
+
+
+def take_owed(station, number):
+    """02, T-06: "an operator's own offer ... waits meanwhile and is reported as not
+    taken"."""
+    kind, index = station.owed
+    blocks = answer_blocks(station.code, kind)
+    block = blocks[index]
+    owed = None
+    if index + 1 < len(blocks):
+        owed = Owed(kind, index + 1)
+    answering_back = at(station, SENDING, number, held=block)._replace(owed=owed)
+    return Answer(answering_back, block, (), False)
 
 
 def sending(station, burst, offer):
@@ -267,7 +354,9 @@ def sending(station, burst, offer):
         return Row(take(station, offer, other(station.number)), True)
     if first == CS3:
         # "CS3: confirmed; send beta alpha beta, go to Turning."  No offer is
-        # taken.
+        # taken.  02, T-06: "the blocks of the answer not yet sent are then
+        # dropped".
+        station = station._replace(owed=None)
         turning_now = at(station, TURNING, station.number)
         return Row(Answer(turning_now, TURN, (), False), True)
     # "All else: send RQ RQ RQ."
@@ -332,8 +421,10 @@ def ending(station, burst, offer):
 def listen(case, plus, block):
     """Reads an accepted block for shifts and for the over: "? follows + in
     figures case with only beta between, within a block or across blocks; any
-    other signal between cancels it".  Answers case, plus, over heard."""
+    other signal between cancels it"; and for "who are you", which is D in figures
+    (02, T-06).  Answers case, plus, over heard, asked who it is."""
     over = False
+    asked = False
     for word in block:
         if word == BETA:
             continue
@@ -349,9 +440,12 @@ def listen(case, plus, block):
         elif case == "figures" and word == QUERY:
             over = over or plus
             plus = False
+        elif case == "figures" and word == WHO_ARE_YOU:
+            asked = True
+            plus = False
         else:
             plus = False
-    return case, plus, over
+    return case, plus, over, asked
 
 
 def receiving(station, burst, offer):
@@ -362,8 +456,15 @@ def receiving(station, burst, offer):
         # "Three intact words, each traffic or beta: accepted; the traffic
         # signals are printed"
         printed = tuple(word for word in burst if is_traffic(word))
-        case, plus, over = listen(station.case, station.plus, burst)
+        case, plus, over, asked = listen(station.case, station.plus, burst)
         heard = station._replace(case=case, plus=plus)
+        if asked:
+            # 02, T-06: "a receiver that prints D in figures turns the direction";
+            # "if the over stood in the same block, it keeps the direction"; "an over
+            # at the block with D too, waits meanwhile".
+            owed = Owed("keep" if over else "back", 0)
+            return Row(Answer(at(heard, ASKING)._replace(owed=owed), single(CS3),
+                              printed, False), True)
         if over or offer.kind == "over":
             # "it sends CS3 and goes to Asking (an over offered then counts as
             # taken, no other offer does)."
@@ -420,8 +521,9 @@ def blocks_in_succession(station, burst):
 
 def begin_call(station):
     """What is forgotten where a call is answered or placed: a circuit starts
-    with letters case and no + heard, and nobody is at the other end yet."""
-    return station._replace(case="letters", plus=False, other_end=None)
+    with letters case and no + heard, nobody is at the other end yet, and nothing is
+    owed."""
+    return station._replace(case="letters", plus=False, other_end=None, owed=None)
 
 
 def standby(station, burst, offer):

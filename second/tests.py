@@ -31,8 +31,9 @@ from signals import (  # noqa: E402
     ALPHA, BETA, BLANK, CARRIAGE_RETURN, CS1, CS2, CS3, CS4, CS5, FIGURES, LETTERS,
     LINE_FEED, PLUS, QUERY, RQ, SPACE)
 from station import (  # noqa: E402
-    ANSWERING, ASKING, CALLING, CALLING_3, ENDING, IDENTIFYING, LOST, NO_IDENTITY,
-    NO_SEVEN, NOTHING, OPENING, RECEIVING, SENDING, STANDBY, TURNING, Offer, Station)
+    ANSWERING, ASKING, CALLING, CALLING_3, ENDING, IDENTIFYING, LOST, NO_CODE,
+    NO_IDENTITY, NO_SEVEN, NOTHING, OPENING, RECEIVING, SENDING, STANDBY, TURNING, Code,
+    Offer, Owed, Station)
 
 A = signals.traffic_word(1)
 D = signals.traffic_word(4)
@@ -58,12 +59,12 @@ def call_offer(*words):
 def at(place, number=0, held=(0, 0, 0), total=0, count=0, case="letters",
        plus=False, master=True, own=NO_IDENTITY, other_end=None, cycles=0, last=0,
        called=NO_IDENTITY, own_seven=NO_SEVEN, blocks=(), stage=0, wrong=0,
-       last_wrong=0, seven=NO_SEVEN):
+       last_wrong=0, seven=NO_SEVEN, code=NO_CODE, owed=None):
     if place in (IDENTIFYING, ANSWERING) and stage == 0:
         stage = 1
     return Station(master, place, number, held, total, count, case, plus, own,
                    other_end, cycles, last, called, own_seven, blocks, stage, wrong,
-                   last_wrong, seven)
+                   last_wrong, seven, code, owed)
 
 
 def answer(station, *burst, offer=NOTHING):
@@ -337,7 +338,9 @@ def over_across_blocks():
 def over_cancelled():
     def over_in(*block, case="figures", plus=False):
         station = at(RECEIVING, 1, case=case, plus=plus)
-        return answer(station, *block).station.place == ASKING
+        heard = answer(station, *block).station
+        # D turns the direction too, and then the over alone keeps it.
+        return heard.place == ASKING and heard.owed != Owed("back", 0)
 
     assert over_in(PLUS, QUERY, A) and over_in(PLUS, BETA, QUERY)
     assert over_in(PLUS, PLUS, QUERY) and over_in(QUERY, A, A, plus=True)
@@ -1885,6 +1888,350 @@ def identification_over_damage():
     assert seen["given up"] > 10 and seen["ended"] > 20, seen
 
 
+# --- The answer-back (02, T-06) ---
+
+def coded(*words):
+    """A code of these signals; behind them what may not stand in one."""
+    return Code(len(words), (*words, *(RQ, 0, D)[:21 - len(words)],
+                             *(0,) * (18 - len(words))))
+
+
+def blocks_by_hand(code, kind):
+    """The blocks of an answer, cut out of one list."""
+    words = list(code.words[:code.length])
+    while len(words) % 3:
+        words.append(BETA)
+    words += [BETA] * 6
+    if kind == "back":
+        words += [FIGURES, PLUS, QUERY]
+    return [tuple(words[start:start + 3]) for start in range(0, len(words), 3)]
+
+
+def who_are_you():
+    # Asked in figures; CS3, Asking, the whole answer owed.
+    for master in (True, False):
+        for n in (1, 2):
+            result = answer(at(RECEIVING, n, count=31, case="figures", master=master),
+                            A, D, BETA)
+            assert shown(result) == (ASKING, 0, (CS3, 0, 0), (A, D), False, 0)
+            assert result.station == at(ASKING, case="figures", master=master,
+                                        owed=Owed("back", 0))
+
+    def owed(*burst, **fields):
+        return answer(at(RECEIVING, 1, **fields), *burst).station.owed
+
+    back = Owed("back", 0)
+    for burst, letters, figures in (
+            ((D, A, A), None, back), ((A, D, A), None, back), ((A, A, D), None, back),
+            ((D, D, D), None, back), ((FIGURES, D, A), back, back),
+            ((FIGURES, A, D), back, back), ((D, FIGURES, A), None, back),
+            ((LETTERS, D, A), None, None), ((D, LETTERS, A), None, back),
+            ((FIGURES, LETTERS, D), None, None), ((LETTERS, FIGURES, D), back, back),
+            ((BETA, BETA, D), None, back), ((BETA, FIGURES, D), back, back),
+            ((A, E, A), None, None), ((D, 0, A), None, None), ((D, RQ, A), None, None),
+            ((ALPHA, D, D), None, None), ((D, D, 128 + D), None, None)):
+        assert owed(*burst) == letters, burst
+        assert owed(*burst, case="figures") == figures, burst
+    # What case the block leaves, and its +.
+    asked = answer(at(RECEIVING, 1), FIGURES, D, LETTERS).station
+    assert (asked.case, asked.plus, asked.owed) == ("letters", False, back)
+    asked = answer(at(RECEIVING, 1), FIGURES, D, PLUS).station
+    assert (asked.case, asked.plus, asked.owed) == ("figures", True, back)
+    # Nowhere else.
+    for place in PLACES:
+        if place != RECEIVING:
+            held = (E, E, E) if place == SENDING else (0, 0, 0)
+            station = at(place, place in (SENDING, TURNING, ENDING), held, case="figures",
+                         total=2 if place == ENDING else 0)
+            assert answer(station, D, D, D).station.owed is None
+    # A question while something is owed starts anew; no other block does.
+    for before in (None, Owed("keep", 1), Owed("back", 2)):
+        assert owed(D, A, A, case="figures", owed=before) == back
+        assert owed(A, A, A, case="figures", owed=before) == before
+        assert owed(0, D, A, case="figures", owed=before) == before
+
+
+def over_and_question():
+    """"If the over stood in the same block, it keeps the direction"."""
+    def owed(*burst, case="figures", plus=False):
+        station = answer(at(RECEIVING, 1, case=case, plus=plus), *burst).station
+        return station.owed and station.owed.kind
+
+    assert owed(PLUS, QUERY, D) == owed(D, PLUS, QUERY) == "keep"
+    assert owed(QUERY, D, A, plus=True) == owed(QUERY, A, D, plus=True) == "keep"
+    assert owed(BETA, QUERY, D, plus=True) == "keep"
+    # D cancels the +, before the block and within it.
+    assert owed(D, QUERY, A, plus=True) == owed(PLUS, D, QUERY) == "back"
+    assert owed(PLUS, D, QUERY, plus=True) == owed(A, QUERY, D, plus=True) == "back"
+    assert owed(QUERY, PLUS, D) == owed(D, QUERY, PLUS) == owed(D, A, QUERY) == "back"
+    assert owed(FIGURES, QUERY, D, plus=True) == "back"
+    # An over alone owes nothing.
+    assert owed(PLUS, QUERY, A) is None and owed(QUERY, A, A, plus=True) is None
+    assert owed(LETTERS, D, QUERY, plus=True) is None
+
+
+def offers_at_the_question():
+    """"an over at the block with D too, waits meanwhile"."""
+    offers = (NOTHING, OVER, END, text_offer(A, A, A), call_offer(*OWN))
+    for offer in offers:
+        for burst, kind in (((D, A, A), "back"), ((PLUS, QUERY, D), "keep")):
+            result = answer(at(RECEIVING, 2, case="figures"), *burst, offer=offer)
+            assert result.station == at(ASKING, case="figures", owed=Owed(kind, 0))
+            assert (result.burst, result.taken) == ((CS3, 0, 0), False)
+    # Without D it is taken as ever, with something owed too.
+    for owed in (None, Owed("back", 1)):
+        result = answer(at(RECEIVING, 2, owed=owed), D, A, A, offer=OVER)
+        assert result.taken and result.station == at(ASKING, owed=owed)
+
+
+def where_blocks_are_taken(code, owed):
+    """Each row that takes: the station, the burst, the number."""
+    fields = {"code": code, "owed": owed}
+    for n, first in ((1, CS2), (2, CS1)):
+        yield at(SENDING, n, (E, E, E), **fields), (first, 0, 0), 3 - n
+        yield at(OPENING, count=9, **fields), (first, A, A), n % 2 + 1
+        yield at(CALLING, called=FAR, last=3 - n, cycles=3, **fields), (first, 0, 0), 3 - n
+    yield at(IDENTIFYING, stage=4, seven=FAR_7, **fields), (CS1, 0, 0), 1
+
+
+def answer_in_blocks():
+    """Each block of codes of each length, at each row that takes, with any offer."""
+    draw = random.Random(13)
+    offers = (NOTHING, OVER, END, text_offer(A, A, A), call_offer(*OWN))
+    for length in range(21):
+        code = coded(*draw.choices([A, E, L, SPACE], k=length))
+        for kind in ("back", "keep"):
+            blocks = blocks_by_hand(code, kind)
+            assert len(blocks) == (length + 2) // 3 + (3 if kind == "back" else 2)
+            assert mode_a.answer_blocks(code, kind) == blocks
+            for index, block in enumerate(blocks):
+                left = Owed(kind, index + 1) if index + 1 < len(blocks) else None
+                for station, burst, number in where_blocks_are_taken(code,
+                                                                     Owed(kind, index)):
+                    result = answer(station, *burst, offer=draw.choice(offers))
+                    after = result.station
+                    assert shown(result) == (SENDING, number, block, (), False, 0)
+                    assert (after.held, after.owed, after.code) == (block, left, code)
+    # A code that is none, and one of two signals.
+    assert mode_a.answer_blocks(NO_CODE, "back") == [(BETA,) * 3] * 2 + [mode_a.OVER]
+    assert mode_a.answer_blocks(coded(A, E), "keep") == [(A, E, BETA)] + [(BETA,) * 3] * 2
+    # With nothing owed the offer is taken as ever.
+    for station, burst, number in where_blocks_are_taken(coded(A, E), None):
+        result = answer(station, *burst, offer=text_offer(E, E, A))
+        assert shown(result) == (SENDING, number, (E, E, A), (), True, 0)
+
+
+def what_is_owed_stays_or_goes():
+    code = coded(A, E, A, E)
+    for owed in (Owed("back", 2), Owed("keep", 0), None):
+        fields = {"code": code, "owed": owed}
+        sending = at(SENDING, 1, (A, E, A), **fields)
+        # CS3 confirms the block held, and drops the rest.
+        for offer in (NOTHING, OVER, text_offer(A, A, A)):
+            assert answer(sending, CS3, 0, 0, offer=offer) == mode_a.Answer(
+                at(TURNING, 1, code=code), TURN, (), False)
+        # Repetitions keep it, and so do the turn, Lost and Ending.
+        for station, burst, place in (
+                (sending, (CS1, 0, 0), SENDING), (sending, SILENCE, SENDING),
+                (sending._replace(count=31), SILENCE, LOST), (at(LOST, **fields), RQ3, LOST),
+                (at(ASKING, **fields), TURN, OPENING), (at(ASKING, **fields), RQ3, ASKING),
+                (at(OPENING, **fields), SILENCE, OPENING),
+                (at(OPENING, count=31, **fields), RQ3, LOST),
+                (at(TURNING, 1, **fields), RQ3, RECEIVING),
+                (at(RECEIVING, 1, **fields), (A, A, A), RECEIVING),
+                (at(RECEIVING, 1, **fields), (FIGURES, PLUS, QUERY), ASKING),
+                (at(ENDING, 1, total=2, **fields), SILENCE, ENDING),
+                (at(STANDBY, own=OWN, **fields), OWN_1, STANDBY),
+                (at(STANDBY, cycles=9, **fields), SILENCE, STANDBY),
+                (at(CALLING, called=FAR, cycles=3, **fields), SILENCE, CALLING),
+                (at(CALLING_3, seven=FAR_7, cycles=3, **fields), (CS4, 0, 0), IDENTIFYING),
+                (at(CALLING_3, seven=FAR_7, cycles=3, **fields), (CS5, 0, 0), ENDING),
+                (at(IDENTIFYING, stage=4, seven=FAR_7, **fields), (CS3, 0, 0), TURNING),
+                (at(ANSWERING, stage=4, seven=FAR_7, **fields), RQ3, RECEIVING)):
+            after = answer(station, *burst).station
+            assert (after.place, after.owed, after.code) == (place, owed, code)
+        # Every way into Stand-by.
+        for station, burst in (
+                (at(OPENING, **fields), (CS3, 0, 0)),
+                (at(RECEIVING, 1, **fields), (ALPHA,) * 3),
+                (at(ENDING, 1, total=4, **fields), SILENCE),
+                (at(ENDING, 1, total=1, **fields), (CS2, 0, 0)),
+                (at(CALLING, called=FAR, cycles=3, **fields), (CS3, 0, 0)),
+                (at(CALLING, called=FAR, cycles=128, **fields), SILENCE),
+                (at(CALLING_3, seven=FAR_7, cycles=128, **fields), SILENCE),
+                (at(IDENTIFYING, seven=FAR_7, count=31, **fields), SILENCE),
+                (at(ANSWERING, seven=FAR_7, count=31, **fields), SILENCE),
+                (at(ANSWERING, seven=FAR_7, **fields), (ALPHA,) * 3)):
+            after = answer(station, *burst).station
+            assert (after.place, after.owed, after.code) == (STANDBY, None, code)
+        # Calls that are placed and answered.
+        by = at(STANDBY, own=OWN, own_seven=OWN_7, **fields)
+        for station, burst, offer, place in (
+                (by._replace(last=1), OWN_2, NOTHING, RECEIVING),
+                (by._replace(blocks=(1, 2)), CALLS_OWN[3], NOTHING, ANSWERING),
+                (by, SILENCE, call_offer(*FAR), CALLING),
+                (by, SILENCE, offer_of_seven(FAR_7), CALLING_3)):
+            after = answer(station, *burst, offer=offer).station
+            assert (after.place, after.owed, after.code) == (place, None, code)
+
+
+def passes_by_hand(words):
+    """Whether a code passes, by the runs of signals between its shifts: none of them
+    that is in figures, the first counted there, has D or + and ? in succession."""
+    if len(words) > 20 or any(word not in TRAFFIC for word in words):
+        return False
+    runs = [[]]
+    for word in words:
+        if word == FIGURES:
+            runs.append([])
+        elif word == LETTERS:
+            runs.append(None)
+        elif runs[-1] is not None:
+            runs[-1].append(word)
+    return not any(D in run or (PLUS, QUERY) in zip(run, run[1:])
+                   for run in runs if run is not None)
+
+
+def codes_and_refusal_nine():
+    draw = random.Random(6)
+    few = (D, FIGURES, LETTERS, PLUS, QUERY, A)
+    codes = [()] + [(one,) for one in range(256)]
+    codes += [(one, two, three, four) for one in few for two in few for three in few
+              for four in few]
+    codes += [tuple(draw.choices(TRAFFIC + [D, FIGURES, LETTERS, PLUS, QUERY] * 3,
+                                 k=draw.randint(1, 21))) for _ in range(3000)]
+    passed = 0
+    for words in codes:
+        code = Code(len(words), words + (RQ, D, 0, A) * 5 + (A,))
+        passes = passes_by_hand(words)
+        passed += passes
+        given = mode_a.with_code(at(SENDING, 1, (A, A, A), owed=Owed("back", 9)), code)
+        if passes:
+            assert given == at(SENDING, 1, (A, A, A), code=code)
+            assert not isinstance(answer(given, CS1, 0, 0), Refused)
+        else:
+            assert given == Refused(9, 0)
+            place = draw.choice(PLACES)
+            station = at(place, 1, total=1, code=code, held=(A, A, A))
+            assert answer(station, *SILENCE) == Refused(9, 0)
+    assert 1000 < passed < len(codes) - 1000
+    # What no signal says of itself.
+    for words, passes in (
+            ((D,), False), ((LETTERS, D), True), ((A, LETTERS, D, FIGURES), True),
+            ((LETTERS, FIGURES, D), False), ((PLUS, QUERY), False),
+            ((LETTERS, PLUS, QUERY), True), ((FIGURES, PLUS), True), ((PLUS,), True),
+            ((FIGURES, PLUS, FIGURES, QUERY), True), ((PLUS, BETA, QUERY), False),
+            ((PLUS, BLANK, QUERY), True), ((QUERY, A), True), ((BETA,), False),
+            ((ALPHA,), False), ((RQ,), False), ((0,), False), ((128 + A,), False),
+            ((A,) * 20, True), ((A,) * 21, False)):
+        assert mode_a.code_passes(Code(len(words), words + (0,) * 21)) == passes, words
+    # A length over 20, whatever the words are.
+    for length in (21, 22, 60, 255):
+        assert mode_a.with_code(at(LOST), Code(length, (A,) * 21)) == Refused(9, 0)
+    # A + at the end of the code completes nothing in the answer: figures cancel it.
+    plus = False
+    for block in blocks_by_hand(coded(FIGURES, A, PLUS), "back")[:-1]:
+        _, plus, over, _ = mode_a.listen("figures", plus, block)
+        assert plus and not over
+    assert not mode_a.listen("figures", plus, (FIGURES, QUERY, QUERY))[2]
+
+
+def refusals_of_what_is_owed():
+    """4 for an index that the answer does not have; the order 8, 4, 9, 3."""
+    for place in PLACES:
+        for kind in ("back", "keep"):
+            for length in (0, 1, 3, 4, 19, 20, 21, 22, 63, 64, 255):
+                there = -(-length // 3) + (3 if kind == "back" else 2)
+                code = Code(length, (A,) * 21)
+                for index in (0, there - 1, there, there + 1, 255):
+                    result = answer(at(place, 1, total=1, held=(A,) * 3, code=code,
+                                       owed=Owed(kind, index)), *SILENCE)
+                    if index >= there:
+                        assert result == Refused(4, 0)
+                    elif length > 20:
+                        assert result == Refused(9, 0)
+                    else:
+                        assert not isinstance(result, Refused)
+    bad_text, bad_call = text_offer(A, RQ, A), call_offer(A, A, RQ, A)
+    good, bad = coded(A), coded(D)
+    for place in PLACES:
+        def refused(offer, **fields):
+            return answer(at(place, 1, **{"total": 1, "held": (A,) * 3, **fields}),
+                          *SILENCE, offer=offer)
+
+        beyond = Owed("keep", 4)
+        for offer in (bad_call, offer_of_seven((A,) * 6 + (RQ,))):
+            for code in (good, bad):
+                for count in (0, 32):
+                    for owed in (None, beyond):
+                        assert refused(offer, code=code, count=count,
+                                       owed=owed).number == 8
+        for offer in (bad_text, NOTHING):
+            for code in (good, bad):
+                assert refused(offer, code=code, owed=beyond) == Refused(4, 0)
+                assert refused(offer, code=code, count=32) == Refused(4, 0)
+            assert refused(offer, code=bad) == Refused(9, 0)
+        assert refused(bad_text, code=bad, owed=Owed("back", 0)) == Refused(9, 0)
+        assert refused(bad_text, code=good, owed=Owed("back", 0)) == Refused(3, 1)
+
+
+def whole_answers():
+    """A master asks, and the slave answers: it turns back, keeps the direction where
+    the over stood in the block, or is cut by an over of the master's operator."""
+    room = bytearray(64)
+    written = text.encode("letters", b"NAME 7", room)
+    code = Code(written.length, tuple(room[:written.length]) + (0,) * 21)
+    assert written.length == 7
+
+    def run(question, cut=None):
+        """What each prints, the burst of each step of the slave, and both at last."""
+        master = mode_a.fresh_master()
+        slave = mode_a.with_code(mode_a.fresh_slave(), code)
+        burst = (CS1, 0, 0)
+        waiting = list(question)
+        printed = {True: [], False: []}
+        sent = []
+        accepted = 0
+        for _ in range(24):
+            offer = text_offer(*waiting[0]) if waiting else NOTHING
+            if not waiting and accepted == cut and master.place == RECEIVING:
+                offer = OVER
+            result = answer(master, *burst, offer=offer)
+            if waiting and result.taken:
+                waiting.pop(0)
+            accepted += master.place == RECEIVING and result.station.place != RECEIVING or (
+                master.place == RECEIVING and result.station.number != master.number)
+            printed[True].extend(result.printed)
+            master = result.station
+            # The slave's operator has a text all the time.
+            reply = answer(slave, *result.burst, offer=text_offer(L, L, L))
+            printed[False].extend(reply.printed)
+            assert not reply.taken or slave.owed is None
+            slave, burst = reply.station, reply.burst
+            sent.append(burst)
+            if reply.taken:
+                return printed, sent, master, slave
+        return printed, sent, master, slave
+
+    answer_words = list(code.words[:7])
+    over = [FIGURES, PLUS, QUERY]
+    printed, sent, master, slave = run([(FIGURES, D, BETA)])
+    assert printed[False] == [FIGURES, D] and printed[True] == answer_words + over
+    assert (master.place, slave.place) == (SENDING, RECEIVING)
+    assert sent[:2] == [(CS3, 0, 0), RQ3]
+    assert sent[2:8] == blocks_by_hand(code, "back") and sent[8] == TURN
+    # The direction is kept: the operator's text goes out behind the answer.
+    printed, sent, master, slave = run([(FIGURES, PLUS, PLUS), (QUERY, BETA, D)])
+    assert printed[True] == answer_words and slave.place == SENDING
+    assert sent[-6:] == blocks_by_hand(code, "keep") + [(L, L, L)]
+    # Cut behind each block: that one is printed, and the answer is not taken up again.
+    for cut in range(6):
+        printed, sent, master, slave = run([(FIGURES, D, BETA)], cut)
+        assert printed[True] == (answer_words + over)[:(3, 6, 7, 7, 7, 10)[cut]]
+        assert sent[-1][1:] == (0, 0) and slave.owed is None
+        assert (master.place, slave.place) == (SENDING, RECEIVING)
+
+
 # --- Demand 3 on random runs of two stations ---
 
 class Side:
@@ -1938,6 +2285,13 @@ def one_step(hearer, sender, burst, offer):
         hearer.accepted += 1
     else:
         assert result.printed == ()
+    # 02, T-06: while an answer is owed its blocks are taken, and no offer is.
+    if taking and before.owed is not None:
+        assert not result.taken and after.place == SENDING
+        kind, index = before.owed
+        blocks = blocks_by_hand(before.code, kind)
+        assert after.held == blocks[index]
+        assert after.owed == (Owed(kind, index + 1) if index + 1 < len(blocks) else None)
     for one, two in ((hearer, sender), (sender, hearer)):
         # What is confirmed is printed, and printing is ahead by one at most.
         assert 0 <= two.accepted - one.confirmed <= 1
@@ -1949,7 +2303,7 @@ def one_step(hearer, sender, burst, offer):
 def random_offer(draw):
     chance = draw.random()
     if chance < 0.70:
-        return text_offer(*(draw.choice(TRAFFIC + [BETA, PLUS, QUERY, FIGURES])
+        return text_offer(*(draw.choice(TRAFFIC + [BETA, PLUS, QUERY, FIGURES, D])
                             for _ in range(3)))
     if chance < 0.82:
         return NOTHING
@@ -1986,6 +2340,9 @@ def run_of_two(draw, sender, hearer, burst, most, damage, seen):
             seen["ended by a call"] += 1
             break
         seen["turns"] += before.place == TURNING and after.place == RECEIVING
+        if before.owed is not None and after.place in (SENDING, TURNING):
+            seen["answered"] += after.owed is None and after.place == SENDING
+            seen["cut"] += before.place == SENDING and after.place == TURNING
         if before.place == CALLING and after.place in (SENDING, ENDING):
             # What a completed call leaves: the slave is Receiving and awaits 1.
             slave = sender.station
@@ -2003,7 +2360,8 @@ def run_of_two(draw, sender, hearer, burst, most, damage, seen):
 
 def seen_nothing():
     return dict.fromkeys(("exchanges", "turns", "ends", "losses", "completed",
-                          "after repetitions", "ran out", "ended by a call"), 0)
+                          "after repetitions", "ran out", "ended by a call",
+                          "answered", "cut"), 0)
 
 
 DAMAGE = (0, 0.05, 0.2, 0.5)
@@ -2013,20 +2371,28 @@ def demand_three():
     draw = random.Random(3)
     seen = seen_nothing()
     for run in range(1200):
-        master, slave = Side(mode_a.fresh_master()), Side(mode_a.fresh_slave())
+        master, slave = (Side(with_some_code(draw, fresh)) for fresh in (
+            mode_a.fresh_master(), mode_a.fresh_slave()))
         # "the slave's CS1 first"
         run_of_two(draw, slave, master, (CS1, 0, 0), 120, DAMAGE[run % 4], seen)
     # The runs have to pass through what they are meant to show.
     assert seen["turns"] > 1200 and seen["exchanges"] > 1200
     assert seen["ends"] + seen["ended by a call"] > 60 and seen["losses"] > 40
     assert seen["completed"] == seen["ran out"] == 0
+    assert seen["answered"] > 400 and seen["cut"] > 100, seen
+
+
+def with_some_code(draw, station):
+    """Demand 3 "takes stations whose code passes this"."""
+    return mode_a.with_code(station, programs.read_code(inputs.passing_code(draw)))
 
 
 def left_at_standby(draw, own):
     """A station at Stand-by as anything may have left it."""
-    return at(STANDBY, own=own, master=draw.random() < 0.5,
-              case=draw.choice(("letters", "figures")), plus=draw.random() < 0.5,
-              cycles=draw.choice((0, 0, 5, 128)), last=draw.randrange(3))
+    station = at(STANDBY, own=own, master=draw.random() < 0.5,
+                 case=draw.choice(("letters", "figures")), plus=draw.random() < 0.5,
+                 cycles=draw.choice((0, 0, 5, 128)), last=draw.randrange(3))
+    return with_some_code(draw, station)
 
 
 def demand_three_from_a_call():
@@ -2047,6 +2413,7 @@ def demand_three_from_a_call():
     assert seen["completed"] > 250 and seen["after repetitions"] > 20
     assert seen["ran out"] > 15 and seen["turns"] > 1000 and seen["losses"] > 20
     assert seen["ends"] + seen["ended by a call"] > 80 and seen["exchanges"] > 800
+    assert seen["answered"] > 100 and seen["cut"] > 20, seen
     seen = seen_nothing()
     for run in range(256):
         block = random_offer(draw).words[:3]
@@ -2465,6 +2832,11 @@ def hear_example():
     assert programs.hear(turned)[0].endswith(
         b"5 beta.beta.beta none\n6 beta.alpha.beta none\n7 CS2 none\n"
         b"8 CS1 none\n9 silent none\n")
+    # D in figures: it answers as of no code, and turns back (02, T-06).
+    asked = bytes([FIGURES, D, BETA, *TURN, CS1, 0, 0, CS2, 0, 0, CS1, 0, 0, CS3, 0, 0])
+    assert programs.hear(asked)[0] == (
+        b"step answer printed\n1 CS3 05\n2 RQ.RQ.RQ none\n3 beta.beta.beta none\n"
+        b"4 beta.beta.beta none\n5 figures.Z.B none\n6 beta.alpha.beta none\n")
     # At Stand-by it has no identity, and hears no call.
     called = bytes([ALPHA] * 3 + [0, RQ, 0, 0, 0, RQ, 0, RQ, 0, A, A, RQ])
     assert programs.hear(called)[0] == (
@@ -2523,7 +2895,7 @@ def whole_runs():
     # A refusal that is a record's line is nothing told.
     refused = b"E\0\0\0\1\0A"
     assert programs.run("calls", (), refused) == (b"refused 2 1 -\n", b"", 0)
-    assert programs.run("steps", (), bytes([0, 6, 0, 0, 0, 0, 0, 99] + [0] * 52)) == (
+    assert programs.run("steps", (), bytes([0, 6, 0, 0, 0, 0, 0, 99] + [0] * 76)) == (
         b"refused 4 0\n", b"", 0)
     for name in programs.PROGRAMS:
         usage = b"%s: usage: ./telex %s < input\n" % (name.encode(), name.encode())
@@ -2577,16 +2949,18 @@ def letter_through_all():
 
 
 def step_record(head, burst, offer, *, behind=(0,) * 6, known=(0,) * 5,
-                called=(0,) * 4, seven=(0,) * 28):
+                called=(0,) * 4, seven=(0,) * 28, code=(0,) * 21, owed=(0, 0)):
     """head: bytes 0 to 9; offer: 13 to 16; behind: 17 to 22; known: 23 to 27; called:
-    28 to 31; seven: 32 on."""
-    record = bytes([*head, *burst, *offer, *behind, *known, *called, *seven])
-    assert len(record) == 60
+    28 to 31; seven: 32 to 59; code: 60 to 80; owed: 81 and 82."""
+    record = bytes([*head, *burst, *offer, *behind, *known, *called, *seven, *code,
+                    *owed, 0])
+    assert len(record) == 84
     return record
 
 
-# The last part of a line where nothing of three-block calls is told.
-NO_MORE = b" | 0 0 0 0 0 0 0 0 0 0 0 0 0 0\n"
+# The last parts of a line where nothing of three-block calls is told, and nothing is
+# owed.
+NO_MORE = b" | 0 0 0 0 0 0 0 0 0 0 0 0 0 0 | none 0\n"
 
 
 def steps_records():
@@ -2595,7 +2969,7 @@ def steps_records():
     accepted = step_record(head, [116, 86, 51], [0, 9, 9, 9])
     lost = step_record(head, [116, 0, 51], [3, 9, 9, 9])
     refused = step_record(head, [116, 0, 51], [7, 71, 51, 15])
-    assert programs.steps(accepted + lost + refused + accepted[:59]) == (
+    assert programs.steps(accepted + lost + refused + accepted[:83]) == (
         b"receiving 2 0 0 0 0 0 letters 0 | 106 0 0 | 116 86 0 | 0" + nobody +
         b"lost 0 0 0 0 0 0 letters 0 | 0 0 0 | 0 0 0 | 0" + nobody +
         b"refused 3 2\n", None)
@@ -2671,7 +3045,7 @@ def steps_records_of_identification():
              taken=0, role=b"master", cycles=0, known=b"nobody", of_other=NO_SEVEN,
              blocks=0, stage=0, wrong=0, last_wrong=0, seven=NO_SEVEN):
         return (b"%s %d %s %d %d %s 0 | %s | 0 0 0 | %d | %s %d 0 0 0 0 0 %s %s"
-                b" | %d %d %d %d %s %s\n" % (
+                b" | %d %d %d %d %s %s | none 0\n" % (
                     place, number, numbers(held), total, count, case, numbers(burst),
                     taken, role, cycles, known, numbers(of_other[:4]), blocks, stage,
                     wrong, last_wrong, numbers(seven), numbers(of_other[4:])))
@@ -2738,6 +3112,72 @@ def steps_records_of_identification():
                 for byte in (0, 127, 255):
                     record[index] = byte
                     assert programs.steps(bytes(record)) == plain, (place, index)
+
+
+def steps_records_of_answers():
+    def line(head, burst, offer=(0,) * 4, **fields):
+        return programs.steps(step_record(head, burst, offer, **fields))[0]
+
+    nobody = b" | slave 0 0 0 0 0 0 nobody 0 0 0 0"
+    nothing = NO_MORE[:-len(b"none 0\n")]
+    code = [4, A, E, L, A] + [0] * 16
+    # The question, with something owed before it; an over in its block.
+    head = [1, 4, 1, 0, 0, 0, 0, 0, 1, 0]
+    assert line(head, [D, A, A], [2, 0, 0, 0], code=code, owed=(2, 1)) == (
+        b"asking 0 0 0 0 0 0 figures 0 | 89 0 0 | 83 71 71 | 0" + nobody + nothing
+        + b"back 0\n")
+    assert line(head, [PLUS, QUERY, D], code=code, owed=(0, 77)) == (
+        b"asking 0 0 0 0 0 0 figures 0 | 89 0 0 | 99 114 83 | 0" + nobody + nothing
+        + b"keep 0\n")
+    # Its blocks.
+    head = [1, 2, 0, 0, 0, 0, 0, 0, 0, 0]
+    for kind, index, block, left in (
+            (1, 0, (A, E, L), b"back 1"), (2 + 3, 1, (A, BETA, BETA), b"keep 2"),
+            (1 + 252, 4, mode_a.OVER, b"none 0"), (254, 3, (BETA,) * 3, b"none 0"),
+            (1, 3, (BETA,) * 3, b"back 4")):
+        assert line(head, [CS2, 0, 0], [3, 0, 0, 0], code=code, owed=(kind, index)) == (
+            b"sending 2 %s 0 0 letters 0 | %s | 0 0 0 | 0" % (
+                numbers(block), numbers(block)) + nobody + nothing + left + b"\n")
+    # What is refused.
+    for kind, index, length, told in (
+            (1, 5, 4, b"4 0"), (2, 4, 4, b"4 0"), (0, 5, 4, None), (3, 255, 4, None),
+            (0, 0, 21, b"9 0"), (1, 9, 21, b"9 0"), (1, 10, 21, b"4 0"),
+            (2, 9, 21, b"4 0"), (1, 88, 255, b"4 0"), (1, 87, 255, b"9 0")):
+        told = None if told is None else b"refused %s\n" % told
+        result = line(head, SILENCE, code=[length] + [A] * 20, owed=(kind, index))
+        assert result == told or told is None and result.endswith(b"| none 0\n")
+    # Of the code only what is within the length, and nothing of byte 83, matters.
+    record = bytearray(step_record(head, SILENCE, [0] * 4, code=code))
+    plain = programs.steps(bytes(record))
+    for index in (*range(56, 60), *range(65, 81), 82, 83):
+        for byte in (0, D, RQ, 255):
+            record[index] = byte
+            assert programs.steps(bytes(record)) == plain
+    for index in range(61, 65):
+        spoilt = bytearray(record)
+        spoilt[index] = BETA
+        assert programs.steps(bytes(spoilt))[0] == b"refused 9 0\n"
+
+
+def code_records():
+    """Of `C`: each word at each place; the word behind the length is any."""
+    data = bytearray()
+    wanted = []
+    for word in range(256):
+        for index in range(20):
+            words = [A] * 20
+            words[index] = word
+            data += b"C" + bytes([20] + words) + b"C" + bytes([index] + words)
+            wanted.append("ok" if word in TRAFFIC and word != D else "refused 9 0")
+            wanted.append("ok")
+    for length in range(256):
+        data += b"C" + bytes([length] + [A] * 20)
+        wanted.append("ok" if length <= 20 else "refused 9 0")
+    assert programs.calls(bytes(data)) == (
+        "".join(line + "\n" for line in wanted).encode(), None)
+    for length in range(1, 22):
+        assert programs.calls(b"MG" + (b"C" + bytes(21))[:length]) == (
+            b"1 1\n", "bad record at 2: cut short")
 
 
 def calls_records():
@@ -3160,7 +3600,7 @@ def inputs_of_steps():
     records = [one for data in gate_inputs("steps") for one in step_inputs(data)]
     # Each field with each byte; the fields drawn apart from one another, which
     # no run of stations leaves.
-    for index in range(60):
+    for index in range(84):
         assert len({record[index] for record in records}) == 256
     # Around the time-out at each place, with either role.
     around = {}
@@ -3369,6 +3809,104 @@ def inputs_of_identification():
     for place in (SENDING, TURNING, OPENING, RECEIVING, ASKING):
         for kind in ("nobody", "four", "seven", "barred"):
             has(2, "entered", place, kind, LOST)
+
+
+def inputs_of_answers():
+    """02, T-06: what the input of `steps` that is there for it holds, and the records
+    of `C`."""
+    data = [case.data for case in gate_cases("steps") if case.about == "answer-back"]
+    found = {}
+
+    def has(least, *key):
+        assert found.get(key, 0) >= least, (key, found.get(key, 0))
+
+    for record in step_inputs(data[0]):
+        station, burst, offer = programs.read_step(record)
+        result = mode_a.step(station, burst, offer)
+        place, code, owed = station.place, station.code, station.owed
+        passes = code.length <= 20 and passes_by_hand(code.words[:code.length])
+        keys = []
+        if isinstance(result, Refused):
+            keys = [("refused", result.number, place)]
+            beyond = owed is not None and owed.index >= len(
+                blocks_by_hand(code, owed.kind)) and code.length <= 20
+            if result.number == 8:
+                keys += [("8 before 9", place)] * (not passes)
+                keys += [("8 before 4", place)] * beyond
+            if result.number == 4 and beyond and station.count < 32:
+                keys += [("4 before 9", place)] * (not passes)
+                keys += [("4 before 3", place)] * (offer.kind == "text")
+            if result.number == 9:
+                keys += [("9 before 3", place)] * (
+                    offer.kind == "text" and not set(offer.words) <= set(TRAFFIC + [BETA]))
+                keys += [("9 of length", code.length)]
+            if result.number == 4 and owed is not None:
+                keys += [("past the last", code.length, owed.kind)]
+        else:
+            after = result.station
+            taking = takes(station, after) or (
+                place == IDENTIFYING and after.place == SENDING)
+            if place == RECEIVING and result.printed and D in burst:
+                at_places = tuple(word == D for word in burst)
+                keys = [("D at", at_places, station.case, after.place),
+                        ("D offered", offer.kind, after.owed and after.owed.kind)]
+            if owed is not None and taking:
+                keys = [("block", place, code.length, owed), ("taken", place, offer.kind)]
+            if owed is not None and place == SENDING and after.place == TURNING:
+                keys = [("dropped", owed.kind)]
+            if owed is not None and after.place == STANDBY != place:
+                keys = [("rested", place, owed.kind)]
+            if owed is not None and place == STANDBY:
+                keys = [("call", after.place, owed.kind)]
+            if owed is not None and after.place == place and after.owed == owed:
+                keys.append(("kept", place, owed.kind))
+        for key in keys:
+            found[key] = found.get(key, 0) + 1
+    # Each block of each length, at each row that takes.
+    for length in range(21):
+        code = Code(length, (A,) * 21)
+        for kind in ("back", "keep"):
+            has(3, "past the last", length, kind)
+            for index in range(len(blocks_by_hand(code, kind))):
+                for place in (SENDING, OPENING, CALLING, IDENTIFYING):
+                    has(1, "block", place, length, Owed(kind, index))
+    for length in inputs.LENGTHS_OVER:
+        has(3, "9 of length", length)
+    for place in PLACES:
+        has(20, "refused", 4, place)
+        has(40, "refused", 9, place)
+        for order in ("8 before 9", "8 before 4", "4 before 9", "4 before 3", "9 before 3"):
+            has(2, order, place)
+    for kind in ("back", "keep"):
+        has(20, "dropped", kind)
+        for place in (OPENING, ENDING, RECEIVING, CALLING, CALLING_3, ANSWERING):
+            has(2, "rested", place, kind)
+        for place in (STANDBY, RECEIVING, ANSWERING, CALLING, CALLING_3):
+            has(5, "call", place, kind)
+        for place in PLACES:
+            has(5, "kept", place, kind)
+    for offer in programs.OFFERS:
+        for place in (SENDING, OPENING, CALLING, IDENTIFYING):
+            has(2, "taken", place, offer)
+        for kind in ("back", "keep", None):
+            has(10, "D offered", offer, kind)
+    for one in (False, True):
+        for two in (False, True):
+            for three in (False, True):
+                if one or two or three:
+                    has(5, "D at", (one, two, three), "figures", ASKING)
+                    has(5, "D at", (one, two, three), "letters", RECEIVING)
+    # Of `C`, both answers to codes of each length, and each sort of word.
+    answers = {}
+    for case in gate_cases("calls"):
+        for first, behind in inputs.call_records(case.data):
+            if case.data[first:first + 1] == b"C":
+                length, *words = case.data[first + 1:behind]
+                key = min(length, 21), length <= 20 and passes_by_hand(words[:length])
+                answers[key] = answers.get(key, 0) + 1
+    assert answers[0, True] >= 20 and answers[21, False] >= 200
+    for length in range(1, 21):
+        assert answers[length, True] >= 30 and answers[length, False] >= 30, length
 
 
 RECEIVE_RUNS = []
@@ -3710,7 +4248,7 @@ def faults_of_groups_are_told():
 def faults_of_all_programs():
     tellers = {teller for one in faults.FAULTS for teller in one.tellers}
     assert tellers == set(COMPARED) | {"calls " + chr(kind) for kind in inputs.KINDS}
-    assert len({one.about for one in faults.FAULTS}) == len(faults.FAULTS) >= 700
+    assert len({one.about for one in faults.FAULTS}) == len(faults.FAULTS) >= 800
     # The modules of the second program are as they were.
     assert faults.programs_with(None) is not programs.run
     assert sys.modules["programs"] is programs
@@ -3736,6 +4274,9 @@ TESTS = [
     standby_entered, refusal_eight_of_seven, call_of_seven_offered_elsewhere,
     fields_of_identification_that_contradict, nothing_printed_and_own_kept,
     whole_identification, identification_over_damage,
+    who_are_you, over_and_question, offers_at_the_question, answer_in_blocks,
+    what_is_owed_stays_or_goes, codes_and_refusal_nine, refusals_of_what_is_owed,
+    whole_answers,
     demand_three, demand_three_from_a_call,
     sender_examples, sender_corners, search_is_last_four, lock_either_way,
     lock_at_a_break, end_of_reception, three_words_more, three_words_are_swallowed,
@@ -3743,14 +4284,16 @@ TESTS = [
     perfect_copy, perfect_copy_of_01, copies_are_needed, last_letter_of_a_bulletin,
     hear_example, words_in_and_out, whole_runs, script_gives_whole_runs,
     letter_through_all, steps_records, steps_records_of_calls,
-    steps_records_of_identification,
+    steps_records_of_identification, steps_records_of_answers,
     calls_records, meaning_records, identity_records, both_identity_records,
+    code_records,
     receive_records, receive_records_that_wait, receive_records_run_on,
     receive_records_cut,
     compare_names_all_programs, compare_counts_inputs,
     compare_tells_who_does_not_answer,
     inputs_are_bytes, inputs_at_borders, inputs_tell_each_line,
-    inputs_of_steps, inputs_of_calls, inputs_of_identification, inputs_of_receive, inputs_of_waits,
+    inputs_of_steps, inputs_of_calls, inputs_of_identification, inputs_of_answers,
+    inputs_of_receive, inputs_of_waits,
     inputs_of_waiting_records, inputs_of_small_letters, inputs_of_groups,
     conversations_are_answered,
     faults_not_told_are_found, faults_of_groups_are_told, faults_of_all_programs,

@@ -13,6 +13,7 @@ KINDS = ("cs1-block", "cs1", "cs2-block", "cs2", "cs3-block", "cs3", "cs4-block"
          "rqs", "rq", "block", "turn", "alphas", "else")
 OFFERS = ("nothing", "text", "over", "end", "call", "call3")
 OTHERS = ("nobody", "four", "seven", "barred")
+OWED = ("none", "back", "keep")
 MASTER, SLAVE = 0, 1
 ROLES = ("master", "slave")
 
@@ -25,10 +26,13 @@ NO_IDENTITY, NO_SEVEN = (0,) * 4, (0,) * 7
 DOCK, VXQZ = (83, 113, 29, 30), (60, 58, 46, 99)
 KQVZRSE, PEARDBY = (30, 46, 60, 99, 85, 75, 86), (45, 86, 71, 85, 83, 114, 43)
 NOBODY = ("nobody", ())
+NONE_OWED = ("none", 0)
+CODE_WORDS = 20     # so many words of an answer-back code a record has
 
-# A station as `steps` writes it, and its own identities, of four signals and of seven, which that does not show; a field that the place
-# does not carry is 0. `other` is who is at the other end: the word of `steps`, and the signals.
-Station = namedtuple("Station", "role place number held total count case plus cycles last to own own3 other heard3 stage wrong lastwrong signals")
+# A station as `steps` writes it, and its own identities, of four signals and of seven, and its answer-back code, which that does not show;
+# a field that the place does not carry is 0. `other` is who is at the other end: the word of `steps`, and the signals; `owed` what is owed
+# of an answer: the word of `steps`, and the index.
+Station = namedtuple("Station", "role place number held total count case plus cycles last to own own3 other heard3 stage wrong lastwrong signals code owed")
 # The words of a text, or the identity of a call.
 Offer = namedtuple("Offer", "what words")
 Answer = namedtuple("Answer", "station sent printed taken")
@@ -37,8 +41,9 @@ NOTHING = Offer("nothing", SILENCE)
 
 
 def at_place(role, place, number=0, held=SILENCE, total=0, count=0, cycles=0, last=0, to=NO_IDENTITY, own=NO_IDENTITY, own3=NO_SEVEN,
-             other=NOBODY, heard3=0, stage=0, wrong=0, lastwrong=0, signals=NO_SEVEN):
-    return Station(role, place, number, held, total, count, "letters", 0, cycles, last, to, own, own3, other, heard3, stage, wrong, lastwrong, signals)
+             other=NOBODY, heard3=0, stage=0, wrong=0, lastwrong=0, signals=NO_SEVEN, code=(), owed=NONE_OWED):
+    return Station(role, place, number, held, total, count, "letters", 0, cycles, last, to, own, own3, other, heard3, stage, wrong, lastwrong, signals,
+                   code, owed)
 
 
 def fresh(role):
@@ -67,6 +72,9 @@ def identity_blocks(identity):
 
 
 FIRST_BURST = (CS1, 0, 0)       # 01: a fresh slave's first burst is CS1
+
+LETTERS, FIGURES, WHO = 90, 54, 83      # the shifts, and who are you: D in figures
+CODE = (LETTERS, 75, 86, 71)            # an answer-back code: letters S E A
 
 
 PROGRAMS = ("rows", "steps", "encode", "send", "receive")
@@ -137,16 +145,18 @@ def record(station, burst, offer):
                  + (station.cycles, station.last) + station.own
                  + (OTHERS.index(what),) + other[:4] + identity[:4]
                  + station.own3 + other[4:7] + identity[4:7]
-                 + (station.heard3, max(station.stage - 1, 0), station.wrong, station.lastwrong) + station.signals + (0,) * 4)
+                 + (station.heard3, max(station.stage - 1, 0), station.wrong, station.lastwrong) + station.signals + (0,) * 4
+                 + (len(station.code),) + station.code + (0,) * (CODE_WORDS - len(station.code))
+                 + (OWED.index(station.owed[0]), station.owed[1], 0))
 
 
 @functools.lru_cache(1 << 16)
-def answer(own, own3, line):
+def answer(own, own3, code, line):
     if not line.endswith("\n"):
         raise NotRun("./telex --built steps ended before it had answered")
     if line.startswith("refused"):
         raise SystemExit("a step was refused: " + line)
-    place, sent, printed, taken, calls, told = [part.split() for part in line.split("|")]
+    place, sent, printed, taken, calls, told, owed = [part.split() for part in line.split("|")]
     number, *held = [int(field) for field in place[1:5]]
     total, count, plus = int(place[5]), int(place[6]), int(place[8])
     cycles, last, *to = [int(field) for field in calls[1:7]]
@@ -154,13 +164,13 @@ def answer(own, own3, line):
     known = {"nobody": 0, "four": 4}.get(calls[7], 7)
     other = (calls[7], tuple((*map(int, calls[8:]), *signals[7:])[:known]))
     return Answer(Station(ROLES.index(calls[0]), place[0], number, tuple(held), total, count, place[7], plus, cycles, last, tuple(to), own, own3,
-                          other, heard3, stage, wrong, lastwrong, tuple(signals[:7])),
+                          other, heard3, stage, wrong, lastwrong, tuple(signals[:7]), code, (owed[0], int(owed[1]))),
                   tuple(map(int, sent)), tuple(int(word) for word in printed if word != "0"), taken == ["1"])
 
 
 class Steps:
     """The program `steps`, kept running."""
-    AT_ONCE = 4096 // 60    # so many records of 60 bytes any pipe takes whole: the answers to all before have been read by then
+    AT_ONCE = 4096 // 84    # so many records of 84 bytes any pipe takes whole: the answers to all before have been read by then
 
     def __enter__(self):
         self.process = started(subprocess.Popen, "./telex", "--built", "steps", stdin=subprocess.PIPE, stdout=subprocess.PIPE)
@@ -183,13 +193,13 @@ class Steps:
                 self.process.stdin.flush()
             except OSError as fault:
                 raise NotRun("./telex --built steps takes no more records: %s" % fault.strerror)
-            answers += [answer(one[0].own, one[0].own3, self.process.stdout.readline().decode("ascii")) for one in some]
+            answers += [answer(one[0].own, one[0].own3, one[0].code, self.process.stdout.readline().decode("ascii")) for one in some]
         return answers
 
 
 # How a circuit begins: with a fresh master and a fresh slave, or with two stations at Stand-by, of which the first calls the second by two
-# blocks or by three.
-BY_FRESH, BY_CALL, BY_CALL3 = range(3)
+# blocks or by three; or with fresh ones of which the slave has an answer-back code: letters S E A.
+BY_FRESH, BY_CALL, BY_CALL3, BY_CODE = range(4)
 FIRST_CALL = {BY_CALL: Offer("call", VXQZ), BY_CALL3: Offer("call3", PEARDBY)}
 
 
@@ -197,8 +207,11 @@ class Circuit:
     """Two stations. Bursts alternate; who hears one answers it, and the other hears the answer."""
 
     def __init__(self, by=BY_FRESH):
-        self.stations = [standing(DOCK, KQVZRSE), standing(VXQZ, PEARDBY)] if by else [fresh(MASTER), fresh(SLAVE)]
-        self.on_the_way, self.hearer = SILENCE if by else FIRST_BURST, MASTER
+        called = by in FIRST_CALL
+        self.stations = [standing(DOCK, KQVZRSE), standing(VXQZ, PEARDBY)] if called else [fresh(MASTER), fresh(SLAVE)]
+        if by == BY_CODE:
+            self.stations[SLAVE] = self.stations[SLAVE]._replace(code=CODE)
+        self.on_the_way, self.hearer = SILENCE if called else FIRST_BURST, MASTER
         self.to_call = FIRST_CALL.get(by)       # the call that is still to be placed
 
     def answered(self, reply):

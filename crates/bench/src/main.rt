@@ -3,6 +3,7 @@ use filters::Stream;
 use identity::Seven;
 use mode_a::Identity;
 use mode_a::Offer;
+use mode_a::Owed;
 use mode_a::Own;
 use mode_a::Peer;
 use mode_a::Place;
@@ -479,6 +480,7 @@ fn mix_refused(sum: u64, stepped: Stepped) -> u64 {
     match stepped {
         Stepped::Done(_) => sum,
         Stepped::BadStation(_) => mix_refusal(sum, 4, 0),
+        Stepped::BadCode(_) => mix_refusal(sum, 9, 0),
         Stepped::BadWord(index, _) => mix_refusal(sum, 3, index as u64),
         Stepped::BadCall(index, _) => mix_refusal(sum, 8, index as u64),
     }
@@ -546,8 +548,10 @@ fn run_step(times: u64) -> u64 {
         own: Own {
             four: Identity(0, 0, 0, 0),
             seven: Seven(0, 0, 0, 0, 0, 0, 0),
+            code: mode_a::NO_CODE,
         },
         other: Peer::Nobody,
+        owed: Owed::Nothing,
     };
     let bad_station = station::step(unsound, mode_a::SILENCE, Offer::Nothing);
     let bad_offer = station::step(

@@ -1,9 +1,12 @@
 // One public call a record, so that rooms, cases, lengths and receivers can be tried that no filter reaches (docs/FORMATS.md).
 use filters::Stream;
 use identity::Seven;
+use mode_a::Code;
+use mode_a::Coded;
 use mode_a::Identity;
 use mode_a::Station;
 use mode_a::Stood;
+use mode_a::Words;
 use mode_b::Heard;
 use mode_b::Hearing;
 use mode_b::Phase;
@@ -153,7 +156,7 @@ fn put_slot(line: &mut [u8], slot: Slot) -> usize {
     }
 }
 
-fn four_bytes(head: &[u8; 11]) -> usize {
+fn four_bytes(head: &[u8; 21]) -> usize {
     two_bytes(head[2], head[3]) * 65536 + two_bytes(head[0], head[1])
 }
 
@@ -171,7 +174,7 @@ fn phasing_of(byte: u8) -> Phasing {
 }
 
 // The receiver of a record of kind R. The kind does not stand in the head: byte 1 of the record stands at 0.
-fn receiver_of(head: &[u8; 11]) -> Receiver {
+fn receiver_of(head: &[u8; 21]) -> Receiver {
     if head[0] % 2 == 0 {
         return Receiver {
             hearing: Hearing::Searching(head[1], phasing_of(head[2])),
@@ -263,7 +266,7 @@ fn put_heard(line: &mut [u8], heard: Heard) -> usize {
 }
 
 // A call of kind R.
-fn put_received(line: &mut [u8], head: &[u8; 11]) -> usize {
+fn put_received(line: &mut [u8], head: &[u8; 21]) -> usize {
     let received = receiving::receive(receiver_of(head), head[9]);
     match received {
         Received::Done(heard) => put_heard(line, heard),
@@ -279,11 +282,11 @@ fn put_stood(line: &mut [u8], stood: Stood) -> usize {
     }
 }
 
-fn standing(head: &[u8; 11]) -> Stood {
+fn standing(head: &[u8; 21]) -> Stood {
     Station::standing_by(Identity(head[0], head[1], head[2], head[3]))
 }
 
-fn standing_both(head: &[u8; 11]) -> Stood {
+fn standing_both(head: &[u8; 21]) -> Stood {
     Station::standing_by_both(
         Identity(head[0], head[1], head[2], head[3]),
         Seven(
@@ -298,20 +301,45 @@ fn standing_both(head: &[u8; 11]) -> Stood {
     )
 }
 
+// A call of kind C: the code is given to a fresh slave.
+fn coded(head: &[u8; 21]) -> Coded {
+    answerback::with_code(
+        Station::fresh_slave(),
+        Code {
+            length: head[0],
+            first: Words(head[1], head[2], head[3]),
+            second: Words(head[4], head[5], head[6]),
+            third: Words(head[7], head[8], head[9]),
+            fourth: Words(head[10], head[11], head[12]),
+            fifth: Words(head[13], head[14], head[15]),
+            sixth: Words(head[16], head[17], head[18]),
+            seventh: Words(head[19], head[20], 0),
+        },
+    )
+}
+
+fn put_coded(line: &mut [u8], answer: Coded) -> usize {
+    match answer {
+        Coded::With(_) => numbers::put_all(line, 0, b"ok"),
+        Coded::BadCode(_) => filters::put_refusal(line, 0, 9, 0),
+    }
+}
+
 // A call of another kind.
-fn put_other(line: &mut [u8], kind: u8, head: &[u8; 11], list: &[u8]) -> usize {
+fn put_other(line: &mut [u8], kind: u8, head: &[u8; 21], list: &[u8]) -> usize {
     match kind {
         b'S' => put_slot(line, sending::slot(list, four_bytes(head))),
         b'M' => put_meaning(line, head[0]),
         b'I' => put_stood(line, standing(head)),
         b'J' => put_stood(line, standing_both(head)),
+        b'C' => put_coded(line, coded(head)),
         _ => put_received(line, head),
     }
 }
 
 // The bytes between a record's kind and its list; 0 where there is no such kind.
 fn head_length(kind: u8) -> usize
-    ensures { λ r. ⌜ r < 12 ⌝ }
+    ensures { λ r. ⌜ r < 22 ⌝ }
 {
     match kind {
         b'E' | b'P' => 5,
@@ -320,12 +348,13 @@ fn head_length(kind: u8) -> usize
         b'R' => 10,
         b'I' => 4,
         b'J' => 11,
+        b'C' => 21,
         _ => 0,
     }
 }
 
 // The room that a record asks for.
-fn size_in(kind: u8, head: &[u8; 11]) -> usize {
+fn size_in(kind: u8, head: &[u8; 21]) -> usize {
     match kind {
         b'E' | b'P' => two_bytes(head[1], head[2]),
         _ => 0,
@@ -333,7 +362,7 @@ fn size_in(kind: u8, head: &[u8; 11]) -> usize {
 }
 
 // The length of a record's list.
-fn length_in(kind: u8, head: &[u8; 11]) -> usize
+fn length_in(kind: u8, head: &[u8; 21]) -> usize
     ensures { λ r. ⌜ r < 65536 ⌝ }
 {
     match kind {
@@ -343,7 +372,7 @@ fn length_in(kind: u8, head: &[u8; 11]) -> usize
     }
 }
 
-fn answer(stream: Stream, output: &mut [u8], kind: u8, head: &[u8; 11], list: &[u8]) -> Stream {
+fn answer(stream: Stream, output: &mut [u8], kind: u8, head: &[u8; 21], list: &[u8]) -> Stream {
     match kind {
         b'E' | b'P' => {
             let mut room = [0u8; 8192];
@@ -367,12 +396,12 @@ fn answer(stream: Stream, output: &mut [u8], kind: u8, head: &[u8; 11], list: &[
 }
 
 // The bytes of a record, its kind and its list with it.
-fn bytes_in(kind: u8, head: &[u8; 11]) -> usize {
+fn bytes_in(kind: u8, head: &[u8; 21]) -> usize {
     1 + head_length(kind) + length_in(kind, head)
 }
 
 // Reads the list and answers.
-fn listed(stream: Stream, input: &mut [u8], output: &mut [u8], kind: u8, head: &[u8; 11]) -> Came {
+fn listed(stream: Stream, input: &mut [u8], output: &mut [u8], kind: u8, head: &[u8; 21]) -> Came {
     let length = length_in(kind, head);
     if 8192 < size_in(kind, head) {
         return none(stream, End::Room);
@@ -400,7 +429,7 @@ fn headed(stream: Stream, input: &mut [u8], output: &mut [u8], kind: u8) -> Came
     if needed == 0 {
         return none(stream, End::NoKind);
     }
-    let mut head = [0u8; 11];
+    let mut head = [0u8; 21];
     let read = stream.record(input, output, &mut head, needed);
     let after = read.stream;
     if read.count != needed {

@@ -21,19 +21,21 @@ use Rattle.mode_a.specs.declared.Mark.{Mark}
 use Rattle.mode_a.specs.declared.Succession.{Succession}
 use Rattle.mode_a.specs.declared.Identity.{Identity}
 use Rattle.mode_a.specs.declared.Own.{Own}
+use Rattle.mode_a.specs.declared.Owed.{Owed}
 use Rattle.mode_a.specs.declared.Offer.{Offer}
 use Rattle.mode_a.specs.declared.Peer.the-variants.{Nobody, Known}
 use Rattle.mode_a.specs.declared.Place.the-variants.{StandBy}
 use Rattle.mode_a.specs.declared.Station.{Station}
 use Rattle.mode_a.specs.Calls.{isCallable, nextBlock3}
 use Rattle.mode_a.specs.Identification.{toldIn}
-use Rattle.mode_a.specs.Station.{words, single, silence, freshAt}
+use Rattle.mode_a.specs.Station.{words, single, silence, noCode, freshAt}
 use Rattle.mode_a.specs.Heard.{furtherOf, firstOf, mayHold, isBlock, isWords, callOf, call3Of, heardOf}
 use Rattle.mode_a.specs.Over.{query, cross, listened}
+use Rattle.mode_a.specs.Answerback.{codeSignals, holdsNeither, passes, owedExists}
 use Rattle.mode_a.specs.Step.{unidentified, trafficIn, done, sound, stepping}
 use Rattle.runs.specs.Runs.{start}
 use Rattle.circuit.specs.Circuit.{Event, traffic, signalsIn, nothingYet, Circuit, next, after}
-use Rattle.circuit.specs.Starts.{CallPlaced, with-block, Call3Placed, CallCompleted, CallTurned, placed3}
+use Rattle.circuit.specs.Starts.{CallPlaced, with-block, Call3Placed, CallCompleted, CallTurned, placed3, CodesPass}
 use Rattle.circuit.specs.Demand.{Demand3}
 use Rattle.circuit.proofs.Computed.{run-of, through, computed}
 use Rattle.circuit.proofs.Runs.{clear, faded, struck, signals3, text, none, CarriedAll, Ordinary, ordinary}
@@ -45,10 +47,10 @@ abbrev pub kqvzrse : Seven
 kqvzrse = spelt 11 17 22 26 18 19 05
 
 abbrev pub calling : Own
-calling = record { four = pear; seven = PEARDBY }
+calling = record { four = pear; seven = PEARDBY; code = noCode }
 
 abbrev pub called : Own
-called = record { four = vxqz; seven = kqvzrse }
+called = record { four = vxqz; seven = kqvzrse; code = noCode }
 
 abbrev pub both-stand-by : Circuit
 both-stand-by =
@@ -58,7 +60,7 @@ abbrev pub call-placed3 : Circuit
 call-placed3 = next both-stand-by (clear (Offer.Call3 kqvzrse))
 
 pub is-placed3 : Call3Placed kqvzrse call-placed3
-unfolding stepping sound done firstNot isIdentity isCallable isCallable7 isBlock mayHold trafficOf meaningOf heardOf callOf call3Of toldIn firstOf isWords
+unfolding stepping sound owedExists passes codeSignals holdsNeither done firstNot isIdentity isCallable isCallable7 isBlock mayHold trafficOf meaningOf heardOf callOf call3Of toldIn firstOf isWords
 is-placed3 = record {
   caller = freshAt calling;
   sender-is = refl;
@@ -103,26 +105,30 @@ pub is-ordinary : Ordinary call-placed3 (run-of start to-the-end)
 unfolding meaningOf
 is-ordinary = ordinary call-placed3 to-the-end refl
 
+codes-pass3 : CodesPass call-placed3
+unfolding stepping sound owedExists passes codeSignals holdsNeither done firstNot isIdentity isCallable isCallable7 isBlock mayHold trafficOf meaningOf heardOf callOf call3Of toldIn firstOf isWords
+codes-pass3 = record { hearer-passes = refl; sender-passes = refl }
+
 pub of-that-run : Demand3 (after call-placed3 (run-of start to-the-end))
 of-that-run =
-    demand3 call-placed3 (placed3 is-placed3) (run-of start to-the-end) (is-ordinary .harmless) (is-ordinary .no-call)
+    demand3 call-placed3 (placed3 is-placed3) codes-pass3 (run-of start to-the-end) (is-ordinary .harmless) (is-ordinary .no-call)
 
 abbrev Completed : Circuit → Type 0
 Completed c =
     CallCompleted c × (c .sender .other ≡ Known kqvzrse) × (c .hearer .other ≡ Known PEARDBY) × (c .from-sender .taken ≡ signals3 1 2 3 ∷ [])
 
 pub is-completed3 : Completed (after call-placed3 (run-of start until-completed))
-unfolding after through stepping sound done firstNot isIdentity isCallable isCallable7 sameSeven checkSum numberOf signalOf nextBlock3 isBlock mayHold trafficOf meaningOf heardOf callOf call3Of toldIn furtherOf firstOf isWords listened trafficIn
+unfolding after through stepping sound owedExists passes codeSignals holdsNeither done firstNot isIdentity isCallable isCallable7 sameSeven checkSum numberOf signalOf nextBlock3 isBlock mayHold trafficOf meaningOf heardOf callOf call3Of toldIn furtherOf firstOf isWords listened trafficIn
 is-completed3 =
-    subst Completed (sym (computed call-placed3 start until-completed)) (record { sender-role = refl; sender-count = refl; sender-case = refl; sender-plus = refl; begins = with-block refl refl refl refl; hearer-role = refl; hearer-place = refl; hearer-count = refl; hearer-case = refl; hearer-plus = refl; none-from-hearer = refl }, refl, refl, refl)
+    subst Completed (sym (computed call-placed3 start until-completed)) (record { sender-role = refl; sender-count = refl; sender-case = refl; sender-plus = refl; begins = with-block refl refl refl refl; sender-owed = refl; hearer-role = refl; hearer-place = refl; hearer-count = refl; hearer-case = refl; hearer-plus = refl; hearer-owed = refl; none-from-hearer = refl }, refl, refl, refl)
 
 pub carries-on3 : CarriedAll (after call-placed3 (run-of start to-the-end) .from-hearer) (signals3 1 2 3 ∷ words figures cross query ∷ []) (wordNo 1 ∷ wordNo 2 ∷ wordNo 3 ∷ figures ∷ cross ∷ query ∷ [])
-unfolding after through stepping sound done firstNot isIdentity isCallable isCallable7 sameSeven checkSum numberOf signalOf nextBlock3 isBlock mayHold trafficOf meaningOf heardOf callOf call3Of toldIn furtherOf firstOf isWords listened trafficIn traffic signalsIn
+unfolding after through stepping sound owedExists passes codeSignals holdsNeither done firstNot isIdentity isCallable isCallable7 sameSeven checkSum numberOf signalOf nextBlock3 isBlock mayHold trafficOf meaningOf heardOf callOf call3Of toldIn furtherOf firstOf isWords listened trafficIn traffic signalsIn
 carries-on3 =
     subst (λ (c : Circuit). CarriedAll (c .from-hearer) (signals3 1 2 3 ∷ words figures cross query ∷ []) (wordNo 1 ∷ wordNo 2 ∷ wordNo 3 ∷ figures ∷ cross ∷ query ∷ [])) (sym (computed call-placed3 start to-the-end)) (record { taken = refl; accepted = refl; printed = refl; is-the-traffic = refl; confirmed = refl })
 
 pub and-answers3 : CarriedAll (after call-placed3 (run-of start to-the-end) .from-sender) (signals3 4 5 6 ∷ []) (wordNo 4 ∷ wordNo 5 ∷ wordNo 6 ∷ [])
-unfolding after through stepping sound done firstNot isIdentity isCallable isCallable7 sameSeven checkSum numberOf signalOf nextBlock3 isBlock mayHold trafficOf meaningOf heardOf callOf call3Of toldIn furtherOf firstOf isWords listened trafficIn traffic signalsIn
+unfolding after through stepping sound owedExists passes codeSignals holdsNeither done firstNot isIdentity isCallable isCallable7 sameSeven checkSum numberOf signalOf nextBlock3 isBlock mayHold trafficOf meaningOf heardOf callOf call3Of toldIn furtherOf firstOf isWords listened trafficIn traffic signalsIn
 and-answers3 =
     subst (λ (c : Circuit). CarriedAll (c .from-sender) (signals3 4 5 6 ∷ []) (wordNo 4 ∷ wordNo 5 ∷ wordNo 6 ∷ [])) (sym (computed call-placed3 start to-the-end)) (record { taken = refl; accepted = refl; printed = refl; is-the-traffic = refl; confirmed = refl })
 
@@ -135,12 +141,12 @@ abbrev slave-sends : List Event
 slave-sends = until-turned ++ clear none ∷ clear none ∷ clear (text 4 5 6) ∷ clear none ∷ clear Offer.End ∷ []
 
 pub is-turned : CallTurned (after call-placed3 (run-of start until-turned))
-unfolding after through stepping sound done firstNot isIdentity isCallable isCallable7 sameSeven checkSum numberOf signalOf nextBlock3 isBlock mayHold trafficOf meaningOf heardOf callOf call3Of toldIn furtherOf firstOf isWords listened trafficIn
+unfolding after through stepping sound owedExists passes codeSignals holdsNeither done firstNot isIdentity isCallable isCallable7 sameSeven checkSum numberOf signalOf nextBlock3 isBlock mayHold trafficOf meaningOf heardOf callOf call3Of toldIn furtherOf firstOf isWords listened trafficIn
 is-turned =
-    subst CallTurned (sym (computed call-placed3 start until-turned)) (record { sender-role = refl; sender-place = refl; sender-count = refl; sender-case = refl; sender-plus = refl; burst-is = refl; hearer-role = refl; hearer-place = refl; hearer-count = refl; hearer-case = refl; hearer-plus = refl; none-from-hearer = refl; none-from-sender = refl })
+    subst CallTurned (sym (computed call-placed3 start until-turned)) (record { sender-role = refl; sender-place = refl; sender-count = refl; sender-case = refl; sender-plus = refl; sender-owed = refl; burst-is = refl; hearer-role = refl; hearer-place = refl; hearer-count = refl; hearer-case = refl; hearer-plus = refl; hearer-owed = refl; none-from-hearer = refl; none-from-sender = refl })
 
 pub slave-first : CarriedAll (after call-placed3 (run-of start slave-sends) .from-sender) (signals3 4 5 6 ∷ []) (wordNo 4 ∷ wordNo 5 ∷ wordNo 6 ∷ [])
-unfolding after through stepping sound done firstNot isIdentity isCallable isCallable7 sameSeven checkSum numberOf signalOf nextBlock3 isBlock mayHold trafficOf meaningOf heardOf callOf call3Of toldIn furtherOf firstOf isWords listened trafficIn traffic signalsIn
+unfolding after through stepping sound owedExists passes codeSignals holdsNeither done firstNot isIdentity isCallable isCallable7 sameSeven checkSum numberOf signalOf nextBlock3 isBlock mayHold trafficOf meaningOf heardOf callOf call3Of toldIn furtherOf firstOf isWords listened trafficIn traffic signalsIn
 slave-first =
     subst (λ (c : Circuit). CarriedAll (c .from-sender) (signals3 4 5 6 ∷ []) (wordNo 4 ∷ wordNo 5 ∷ wordNo 6 ∷ [])) (sym (computed call-placed3 start slave-sends)) (record { taken = refl; accepted = refl; printed = refl; is-the-traffic = refl; confirmed = refl })
 
@@ -159,6 +165,7 @@ half-called =
       plus = false;
       own = called;
       other = Nobody;
+      owed = Owed.Nothing;
     }
 
 abbrev two-placed : Circuit
@@ -166,7 +173,7 @@ two-placed =
     next (record { hearer = freshAt calling; sender = half-called; burst = silence; from-hearer = nothingYet; from-sender = nothingYet }) (clear (Offer.Call kqxx))
 
 pub two-is-placed : CallPlaced kqxx two-placed
-unfolding stepping sound done firstNot isIdentity isCallable isCallable7 isBlock mayHold trafficOf meaningOf heardOf callOf call3Of toldIn firstOf isWords
+unfolding stepping sound owedExists passes codeSignals holdsNeither done firstNot isIdentity isCallable isCallable7 isBlock mayHold trafficOf meaningOf heardOf callOf call3Of toldIn firstOf isWords
 two-is-placed = record {
   caller = freshAt calling;
   sender-is = refl;
@@ -178,5 +185,5 @@ two-is-placed = record {
 }
 
 pub taken-for-three : let c = next two-placed (clear none) in (c .sender .place ≡ unidentified) × (c .burst ≡ single cs4)
-unfolding stepping sound done firstNot isIdentity isCallable isCallable7 isBlock mayHold trafficOf meaningOf heardOf callOf call3Of toldIn firstOf isWords
+unfolding stepping sound owedExists passes codeSignals holdsNeither done firstNot isIdentity isCallable isCallable7 isBlock mayHold trafficOf meaningOf heardOf callOf call3Of toldIn firstOf isWords
 taken-for-three = (refl, refl)

@@ -32,22 +32,24 @@ use Rattle.mode_a.specs.declared.Peer.the-variants.{Four, Known}
 use Rattle.mode_a.specs.declared.Place.{Place}
 use Rattle.mode_a.specs.declared.Place.the-variants.{Sending, Turning, Opening, Ending, Receiving, Asking, StandBy, Lost, Calling, Calling3, Identifying, Answering}
 use Rattle.mode_a.specs.declared.Offer.{Offer}
+use Rattle.mode_a.specs.declared.Owed.{Owed}
 use Rattle.mode_a.specs.declared.Station.{Station}
 use Rattle.mode_a.specs.declared.Doing.{Doing}
-use Rattle.mode_a.specs.declared.Doing.the-variants.{Repeats, Goes, Takes, Receives, Opens, Accepts, Rests, Answers, Listens, Reaches, Answers3, Bars, Ends, Turns, Meets, Again}
+use Rattle.mode_a.specs.declared.Doing.the-variants.{Repeats, Goes, Takes, Receives, Opens, Accepts, Rests, Answers, Listens, Reaches, Answers3, Bars, Ends, Turns, Meets, Again, Yields}
 use Rattle.mode_a.specs.declared.Reply.{Reply}
 use Rattle.mode_a.specs.Calls.{nextBlock}
 use Rattle.mode_a.specs.Station.{single, silence, ααα, asksFor, markOf, marks, resting}
 use Rattle.mode_a.specs.Heard.{First, Cs, Cs3, Rq, Else, Other, Heard, firstOf, mayHold, isBlock, isWords, callOf, call3Of, heardOf}
 use Rattle.mode_a.specs.Over.{listenedAll}
 use Rattle.mode_a.specs.Rows.{rowOf, bothHeard, allHeard, heardThen, isLast}
-use Rattle.mode_a.specs.Step.{sends, holds, takes, called, waitsOn, listens, knowing, repeats, isOver, done}
+use Rattle.mode_a.specs.Step.{sends, holds, takesOffer, takes, called, waitsOn, listens, knowing, repeats, isOver, done}
 use Rattle.runs.specs.Places.{isSending, isEnding, isStandBy, isCalling}
 use Rattle.runs.specs.Runs.{start, _▷_, InOrder, taking}
+use Rattle.runs.specs.Taken.{blockOf, takenIf}
 use Rattle.runs.proofs.RowLaws.{by-sending, by-turning, by-opening, by-ending, by-receiving, by-asking, by-standing, by-calling3, by-identifying, by-answering}
 use Rattle.runs.proofs.PlaceLaws.{is-standby}
 use Rattle.runs.proofs.StepLaws.{Answers as Answered, answers, oneMore, by-repeat, by-take, by-accept, by-listen, by-again, by-meet, standby-answers, standby-answers3, standby-listens, lost-stays}
-use Rattle.circuit.specs.Circuit.{Event, heard, Harmless, Run, nothingYet, Circuit, said, placesCall, blockOf, takenIf, confirmedBy, acceptedBy, answeredBy, goesOn, next, after, AllHarmless, NoCallPlaced}
+use Rattle.circuit.specs.Circuit.{Event, heard, Harmless, Run, nothingYet, Circuit, said, placesCall, confirmedBy, acceptedBy, answeredBy, goesOn, next, after, AllHarmless, NoCallPlaced}
 use Rattle.circuit.specs.Starts.{CallPlaced, Begins, with-block, with-end, CallCompleted, PlacingLeaves, LeavesCompleted}
 use Rattle.circuit.proofs.DamageLaws.{Mangled, mangled, no-block, no-words, FirstIs, said as as-said, unsaid, first-heard}
 use Rattle.circuit.proofs.Link.{saysOn}
@@ -73,10 +75,11 @@ Quits t (Ends i) = Unit {0}
 Quits t (Turns i) = Unit {0}
 Quits t (Meets i) = Unit {0}
 Quits t (Again p w) = isCalling p ≡ false
+Quits t (Yields n) = Unit {0}
 
 row-quits : (own : Own) (r : Role) (x : Place) (h : Heard) → isCalling x ≡ false → Quits (isStandBy x) (rowOf own r x h)
 unfolding Quits
-row-quits own r (Sending b) h n = by-sending (Quits false) b (h .first) (λ c. tt) (λ c. tt) (λ c. refl) (λ c. tt)
+row-quits own r (Sending b) h n = by-sending (Quits false) b (h .first) (λ c. tt) (λ c. tt) (λ c. tt) (λ c. tt)
 row-quits own r (Turning m) h n = by-turning (Quits false) r m h tt tt tt
 row-quits own r Opening h n = by-opening (Quits false) r (h .first) (λ n. tt) tt tt
 row-quits own r (Ending e) h n = by-ending (Quits false) e (h .first) tt (λ i. refl)
@@ -94,7 +97,7 @@ abbrev Quit : Reply → Type 0
 Quit r = isCalling (r .station .place) ≡ false
 
 takes-quit : (s : Station) (n : Number) (o : Offer) → Quit (takes s n o)
-takes-quit s n o = by-take Quit s n o (λ w t. refl) refl
+takes-quit s n o = by-take Quit s n o (λ u w t. refl) refl
 
 done-quits : (s : Station) (b : Words) (o : Offer) (d : Doing) (t : Bool) → isCalling (s .place) ≡ false → Quits t d → (t ≡ true → done s b o d .taken ≡ false) → Quit (done s b o d)
 unfolding done Quits
@@ -103,7 +106,7 @@ done-quits s b o (Goes p w) t n q y = q
 done-quits s b o (Takes m) t n q y = takes-quit s m o
 done-quits s b o (Receives m) t n q y = refl
 done-quits s b o Opens t n q y = refl
-done-quits s b o (Accepts m) t n q y = by-accept Quit s m b (isOver o) (listenedAll (s .case) (s .plus) b) (λ u. refl) refl
+done-quits s b o (Accepts m) t n q y = by-accept Quit s m b o (listenedAll (s .case) (s .plus) b) (λ w u. refl) refl
 done-quits s b o (Rests m w) t n q y = refl
 done-quits s b o Answers t n q y = refl
 done-quits s b o (Listens w) t n q y =
@@ -115,6 +118,7 @@ done-quits s b o (Ends i) t n q y = refl
 done-quits s b o (Turns i) t n q y = refl
 done-quits s b o (Meets i) t n q y = by-meet Quit (knowing s (Known i)) (isOver o) refl refl
 done-quits s b o (Again p w) t n q y = by-again Quit s p w (λ e. refl) (λ e. q)
+done-quits s b o (Yields m) t n q y = refl
 
 -- while no call is placed, none comes to be calling
 record NoneCalling (c : Circuit) : Type 0 where
@@ -141,6 +145,7 @@ record Caller (i : Identity) (s : Station) : Type 0 where
   role-is : s .role ≡ Master
   case-is : s .case ≡ Letters
   plus-is : s .plus ≡ false
+  owed-is : s .owed ≡ Owed.Nothing
 
 record Awaiting (s : Station) : Type 0 where
   at : s .place ≡ Receiving One
@@ -148,6 +153,7 @@ record Awaiting (s : Station) : Type 0 where
   count-is : leb (s .count) 31 ≡ true
   case-is : s .case ≡ Letters
   plus-is : s .plus ≡ false
+  owed-is : s .owed ≡ Owed.Nothing
 
 data Callee (s : Station) : Words → Type 0 where
   standing : (x : Waiting) → s .place ≡ StandBy x → Callee s silence
@@ -172,7 +178,7 @@ data InCall (i : Identity) (c : Circuit) : Type 0 where
 -- a step that carries nothing
 abbrev Carries : Station → Words → Offer → Reply → Type 0
 Carries s b o r =
-    (takenIf (taking (s .place) (firstOf (b .0))) o r ≡ []) × (confirmedBy s b ≡ []) × (acceptedBy s b ≡ []) × (r .printed ≡ silence)
+    (takenIf (taking (s .place) (firstOf (b .0))) s o r ≡ []) × (confirmedBy s b ≡ []) × (acceptedBy s b ≡ []) × (r .printed ≡ silence)
 
 still-none : (c : Circuit) (o : Offer) (b : Words) (r : Reply) → NothingCarried c → Carries (c .hearer) b o r → NothingCarried (answeredBy c o b r)
 still-none c o b r n (t, f, a, p) =
@@ -205,7 +211,7 @@ module _ (i : Identity) (c : Circuit) (e : Event) (h : Harmless e) (r : Reply) (
         go : (t : Bool) → bothHeard (x .heard) (callOf (c .hearer .own .four) b) ≡ t → (u : Bool) → allHeard (x .heard3) (call3Of (c .hearer .own .seven) b) ≡ u → InCall i d
         go true t u v =
             let z = standby-answers (c .hearer) b (e .offer) r y x p t in
-            says (awaiting (rw z (record { at = refl; role-is = refl; count-is = refl; case-is = refl; plus-is = refl }))) (ap (λ (r : Reply). r .sent) z) (rw (p, z) (refl, refl, refl, refl))
+            says (awaiting (rw z (record { at = refl; role-is = refl; count-is = refl; case-is = refl; plus-is = refl; owed-is = refl }))) (ap (λ (r : Reply). r .sent) z) (rw (p, z) (refl, refl, refl, refl))
         go false t true v =
             let z = standby-answers3 (c .hearer) b (e .offer) r y x p t v in
             says (answering _ (ap (λ (r : Reply). r .station .place) z) refl cs4-says-on) (ap (λ (r : Reply). r .sent) z) (rw (p, z) (refl, refl, refl, refl))
@@ -229,6 +235,7 @@ module _ (i : Identity) (c : Circuit) (e : Event) (h : Harmless e) (r : Reply) (
               count-is = ap (λ (r : Reply). leb (r .station .count) 31) j ∙ le-leb (c .hearer .count + 1) 31 (omega arith);
               case-is = ap (λ (r : Reply). r .station .case) j ∙ g .case-is;
               plus-is = ap (λ (r : Reply). r .station .plus) j ∙ g .plus-is;
+              owed-is = ap (λ (r : Reply). r .station .owed) j ∙ g .owed-is;
             }
 
     at-answering : (g : Gathered) → c .hearer .place ≡ Answering g → isLast (g .stage) ≡ false → InCall i d
@@ -262,30 +269,30 @@ module _ (i : Identity) (c : Circuit) (e : Event) (h : Harmless e) (r : Reply) (
     unfolding done
     on k m true j f = failed _ (ap (λ (r : Reply). r .station .place) j) (callee-calls (c .sender) k)
     on k m false j f =
-        calls-on (hears-call (a .called .sent) k (record { called = _; at = ap (λ (r : Reply). r .station .place) j; to-is = a .to-is; role-is = ap (λ (r : Reply). r .station .role) j ∙ a .role-is; case-is = ap (λ (r : Reply). r .station .case) j ∙ a .case-is; plus-is = ap (λ (r : Reply). r .station .plus) j ∙ a .plus-is }) (ap (λ (r : Reply). r .sent) j ∙ ap (λ (i : Identity). nextBlock i (a .called .sent)) (a .to-is)) (still-none c (e .offer) b r n (rw f, rw (a .at), rw (a .at), ap (λ (r : Reply). r .printed) j)))
+        calls-on (hears-call (a .called .sent) k (record { called = _; at = ap (λ (r : Reply). r .station .place) j; to-is = a .to-is; role-is = ap (λ (r : Reply). r .station .role) j ∙ a .role-is; case-is = ap (λ (r : Reply). r .station .case) j ∙ a .case-is; plus-is = ap (λ (r : Reply). r .station .plus) j ∙ a .plus-is; owed-is = ap (λ (r : Reply). r .station .owed) j ∙ a .owed-is }) (ap (λ (r : Reply). r .sent) j ∙ ap (λ (i : Identity). nextBlock i (a .called .sent)) (a .to-is)) (still-none c (e .offer) b r n (rw f, rw (a .at), rw (a .at), ap (λ (r : Reply). r .printed) j)))
 
     -- the same control signal for the second time: the offer is taken under number 1
     module _ (k : Awaiting (c .sender)) (f : taking (c .hearer .place) (firstOf (b .0)) ≡ true) where
       abbrev now : Station
       now = knowing (c .hearer) (Four (a .called .to))
 
-      completed : Begins d → r .printed ≡ silence → r .station .role ≡ c .hearer .role → r .station .count ≡ 0 → r .station .case ≡ c .hearer .case → r .station .plus ≡ c .hearer .plus → r .station .other ≡ Four (a .called .to) → Result
-      completed z p x₁ x₂ x₃ x₄ x₅ =
-          completes (record { sender-role = x₁ ∙ a .role-is; sender-count = x₂; sender-case = x₃ ∙ a .case-is; sender-plus = x₄ ∙ a .plus-is; begins = z; hearer-role = k .role-is; hearer-place = k .at; hearer-count = k .count-is; hearer-case = k .case-is; hearer-plus = k .plus-is; none-from-hearer = rw (n .from-sender-is, a .at, p) }) (x₅ ∙ ap Four (a .to-is))
+      completed : Begins d → r .printed ≡ silence → r .station .role ≡ c .hearer .role → r .station .count ≡ 0 → r .station .case ≡ c .hearer .case → r .station .plus ≡ c .hearer .plus → r .station .other ≡ Four (a .called .to) → r .station .owed ≡ c .hearer .owed → Result
+      completed z p x₁ x₂ x₃ x₄ x₅ x₆ =
+          completes (record { sender-role = x₁ ∙ a .role-is; sender-count = x₂; sender-case = x₃ ∙ a .case-is; sender-plus = x₄ ∙ a .plus-is; begins = z; sender-owed = x₆ ∙ a .owed-is; hearer-role = k .role-is; hearer-place = k .at; hearer-count = k .count-is; hearer-case = k .case-is; hearer-plus = k .plus-is; hearer-owed = k .owed-is; none-from-hearer = rw (n .from-sender-is, a .at, p) }) (x₅ ∙ ap Four (a .to-is))
 
       by-block : (w : Words) (t : Bool) → blockOf (e .offer) ≡ w ∷ [] → isBlock w ≡ true → r ≡ holds now One w t → Result
       by-block w t o g j =
-          completed (with-block g (ap (λ (r : Reply). r .station .place) j) (ap (λ (r : Reply). r .sent) j) (rw (n .from-hearer-is, f, a .at, j, o))) (ap (λ (r : Reply). r .printed) j) (ap (λ (r : Reply). r .station .role) j) (ap (λ (r : Reply). r .station .count) j) (ap (λ (r : Reply). r .station .case) j) (ap (λ (r : Reply). r .station .plus) j) (ap (λ (r : Reply). r .station .other) j)
+          completed (with-block g (ap (λ (r : Reply). r .station .place) j) (ap (λ (r : Reply). r .sent) j) (rw (n .from-hearer-is, f, a .at, j, a .owed-is, o))) (ap (λ (r : Reply). r .printed) j) (ap (λ (r : Reply). r .station .role) j) (ap (λ (r : Reply). r .station .count) j) (ap (λ (r : Reply). r .station .case) j) (ap (λ (r : Reply). r .station .plus) j) (ap (λ (r : Reply). r .station .other) j) (ap (λ (r : Reply). r .station .owed) j)
 
-      by-end : blockOf (e .offer) ≡ [] → r ≡ takes now One Offer.End → Result
-      by-end o j =
-          completed (with-end (ap (λ (r : Reply). r .station .place) j) (ap (λ (r : Reply). r .sent) j) (rw (n .from-hearer-is, f, a .at, j))) (ap (λ (r : Reply). r .printed) j) (ap (λ (r : Reply). r .station .role) j) (ap (λ (r : Reply). r .station .count) j) (ap (λ (r : Reply). r .station .case) j) (ap (λ (r : Reply). r .station .plus) j) (ap (λ (r : Reply). r .station .other) j)
+      by-end : r ≡ takesOffer now One Offer.End → Result
+      by-end j =
+          completed (with-end (ap (λ (r : Reply). r .station .place) j) (ap (λ (r : Reply). r .sent) j) (rw (n .from-hearer-is, f, a .at, j))) (ap (λ (r : Reply). r .printed) j) (ap (λ (r : Reply). r .station .role) j) (ap (λ (r : Reply). r .station .count) j) (ap (λ (r : Reply). r .station .case) j) (ap (λ (r : Reply). r .station .plus) j) (ap (λ (r : Reply). r .station .other) j) (ap (λ (r : Reply). r .station .owed) j)
 
-      by-offer : (o : Offer) → e .offer ≡ o → InOrder (c .hearer .own) o → r ≡ takes now One o → Result
+      by-offer : (o : Offer) → e .offer ≡ o → InOrder (c .hearer .own) o → r ≡ takesOffer now One o → Result
       unfolding isBlock mayHold trafficOf meaningOf
       by-offer (Offer.Text w) p g j = by-block w true (ap blockOf p) g j
       by-offer Offer.Over p g j = by-block _ true (ap blockOf p) refl j
-      by-offer Offer.End p g j = by-end (ap blockOf p) j
+      by-offer Offer.End p g j = by-end j
       by-offer Offer.Nothing p g j = by-block _ true (ap blockOf p) refl j
       by-offer (Offer.Call x) p g j = by-block _ false (ap blockOf p) refl j
       by-offer (Offer.Call3 x) p g j = by-block _ false (ap blockOf p) refl j
@@ -303,7 +310,7 @@ module _ (i : Identity) (c : Circuit) (e : Event) (h : Harmless e) (r : Reply) (
     answered-one k p = go (marks (a .called .last) One) refl
       where
         go : (t : Bool) → marks (a .called .last) One ≡ t → Result
-        go true m = by-offer k (rw (a .at, p) m) (e .offer) refl (y .is-fine) (y .is-done ∙ rw (a .at, p, m))
+        go true m = by-offer k (rw (a .at, p) m) (e .offer) refl (y .is-fine) (y .is-done ∙ rw (a .at, p, m, a .owed-is))
         go false m = on (awaiting k) (markOf One) (leb 128 (a .called .sent)) (y .is-done ∙ rw (a .at, p, m)) (rw (a .at, p) m)
 
     -- the first word heard, of the one that was sent
@@ -352,7 +359,7 @@ calls-of i c y = let w = is-standby (c .hearer .place) (y .hearer-at) in begins-
   where
     begins-call : (x : Waiting) → c .hearer .place ≡ StandBy x → InCall i c
     begins-call x p =
-        hears-call 0 (standing x p) (record { called = _; at = ap (λ (s : Station). s .place) (y .sender-is); to-is = refl; role-is = ap (λ (s : Station). s .role) (y .sender-is); case-is = ap (λ (s : Station). s .case) (y .sender-is); plus-is = ap (λ (s : Station). s .plus) (y .sender-is) }) (y .burst-is) (record { from-hearer-is = y .none-from-hearer; from-sender-is = y .none-from-sender })
+        hears-call 0 (standing x p) (record { called = _; at = ap (λ (s : Station). s .place) (y .sender-is); to-is = refl; role-is = ap (λ (s : Station). s .role) (y .sender-is); case-is = ap (λ (s : Station). s .case) (y .sender-is); plus-is = ap (λ (s : Station). s .plus) (y .sender-is); owed-is = ap (λ (s : Station). s .owed) (y .sender-is) }) (y .burst-is) (record { from-hearer-is = y .none-from-hearer; from-sender-is = y .none-from-sender })
 
 in-call-run : (i : Identity) (c : Circuit) → CallPlaced i c → (run : Run) → AllHarmless run → NoCallPlaced c run → InCall i (after c run) ⊎ NoneCalling (after c run)
 unfolding after AllHarmless NoCallPlaced

@@ -15,13 +15,14 @@ use Rattle.mode_a.specs.declared.Peer.the-variants.{Four}
 use Rattle.identity.specs.Table3.{isIdentity}
 use Rattle.identity.specs.Sums.{isCallable7}
 use Rattle.mode_a.specs.Calls.{isCallable, nextBlock}
-use Rattle.mode_a.specs.Station.{words, silence, resting, noSeven, freshAt}
+use Rattle.mode_a.specs.Station.{words, silence, resting, noCode, noSeven, freshAt}
 use Rattle.mode_a.specs.Heard.{firstOf, mayHold, isBlock, isWords, callOf, call3Of, heardOf}
 use Rattle.mode_a.specs.Over.{query, cross, listened}
+use Rattle.mode_a.specs.Answerback.{codeSignals, holdsNeither, passes, owedExists}
 use Rattle.mode_a.specs.Step.{trafficIn, done, sound, stepping}
 use Rattle.runs.specs.Runs.{start}
 use Rattle.circuit.specs.Circuit.{Event, traffic, signalsIn, nothingYet, Circuit, next, after}
-use Rattle.circuit.specs.Starts.{CallPlaced, with-block, CallCompleted, placed}
+use Rattle.circuit.specs.Starts.{CallPlaced, with-block, CallCompleted, placed, CodesPass}
 use Rattle.circuit.specs.Demand.{Demand3}
 use Rattle.circuit.proofs.Computed.{run-of, through, computed}
 use Rattle.circuit.proofs.Runs.{clear, faded, struck, signals3, text, none, CarriedAll, Ordinary, ordinary}
@@ -35,7 +36,7 @@ abbrev pub pear : Identity
 pear = record { 0 = wordNo 16; 1 = wordNo 5; 2 = wordNo 1; 3 = wordNo 18 }
 
 abbrev named4 : Identity → Own
-named4 i = record { four = i; seven = noSeven }
+named4 i = record { four = i; seven = noSeven; code = noCode }
 
 abbrev pub both-stand-by : Circuit
 both-stand-by =
@@ -45,7 +46,7 @@ abbrev pub call-placed : Circuit
 call-placed = next both-stand-by (clear (Offer.Call vxqz))
 
 pub is-placed : CallPlaced vxqz call-placed
-unfolding stepping sound done firstNot isIdentity isCallable isBlock mayHold trafficOf meaningOf heardOf callOf call3Of isCallable7 firstOf isWords
+unfolding stepping sound owedExists passes codeSignals holdsNeither done firstNot isIdentity isCallable isBlock mayHold trafficOf meaningOf heardOf callOf call3Of isCallable7 firstOf isWords
 is-placed = record {
   caller = freshAt (named4 pear);
   sender-is = refl;
@@ -79,31 +80,35 @@ pub is-ordinary : Ordinary call-placed (run-of start to-the-end)
 unfolding meaningOf
 is-ordinary = ordinary call-placed to-the-end refl
 
+codes-pass : CodesPass call-placed
+unfolding stepping sound owedExists passes codeSignals holdsNeither done firstNot isIdentity isCallable isBlock mayHold trafficOf meaningOf heardOf callOf call3Of isCallable7 firstOf isWords
+codes-pass = record { hearer-passes = refl; sender-passes = refl }
+
 pub of-that-run : Demand3 (after call-placed (run-of start to-the-end))
 of-that-run =
-    demand3 call-placed (placed is-placed) (run-of start to-the-end) (is-ordinary .harmless) (is-ordinary .no-call)
+    demand3 call-placed (placed is-placed) codes-pass (run-of start to-the-end) (is-ordinary .harmless) (is-ordinary .no-call)
 
 abbrev Completed : Circuit → Type 0
 Completed c =
     CallCompleted c × (c .sender .other ≡ Four vxqz) × (c .hearer .count ≡ 2) × (c .from-sender .taken ≡ signals3 1 2 3 ∷ [])
 
 pub is-completed : Completed (after call-placed (run-of start until-completed))
-unfolding after through stepping sound done firstNot isIdentity isCallable nextBlock isBlock mayHold trafficOf meaningOf heardOf callOf call3Of isCallable7 firstOf isWords listened trafficIn
+unfolding after through stepping sound owedExists passes codeSignals holdsNeither done firstNot isIdentity isCallable nextBlock isBlock mayHold trafficOf meaningOf heardOf callOf call3Of isCallable7 firstOf isWords listened trafficIn
 is-completed =
-    subst Completed (sym (computed call-placed start until-completed)) (record { sender-role = refl; sender-count = refl; sender-case = refl; sender-plus = refl; begins = with-block refl refl refl refl; hearer-role = refl; hearer-place = refl; hearer-count = refl; hearer-case = refl; hearer-plus = refl; none-from-hearer = refl }, refl, refl, refl)
+    subst Completed (sym (computed call-placed start until-completed)) (record { sender-role = refl; sender-count = refl; sender-case = refl; sender-plus = refl; begins = with-block refl refl refl refl; sender-owed = refl; hearer-role = refl; hearer-place = refl; hearer-count = refl; hearer-case = refl; hearer-plus = refl; hearer-owed = refl; none-from-hearer = refl }, refl, refl, refl)
 
 pub carries-on : CarriedAll (after call-placed (run-of start to-the-end) .from-hearer) (signals3 1 2 3 ∷ words figures cross query ∷ []) (wordNo 1 ∷ wordNo 2 ∷ wordNo 3 ∷ figures ∷ cross ∷ query ∷ [])
-unfolding after through stepping sound done firstNot isIdentity isCallable nextBlock isBlock mayHold trafficOf meaningOf heardOf callOf call3Of isCallable7 firstOf isWords listened trafficIn traffic signalsIn
+unfolding after through stepping sound owedExists passes codeSignals holdsNeither done firstNot isIdentity isCallable nextBlock isBlock mayHold trafficOf meaningOf heardOf callOf call3Of isCallable7 firstOf isWords listened trafficIn traffic signalsIn
 carries-on =
     subst (λ (c : Circuit). CarriedAll (c .from-hearer) (signals3 1 2 3 ∷ words figures cross query ∷ []) (wordNo 1 ∷ wordNo 2 ∷ wordNo 3 ∷ figures ∷ cross ∷ query ∷ [])) (sym (computed call-placed start to-the-end)) (record { taken = refl; accepted = refl; printed = refl; is-the-traffic = refl; confirmed = refl })
 
 pub and-answers : CarriedAll (after call-placed (run-of start to-the-end) .from-sender) (signals3 4 5 6 ∷ []) (wordNo 4 ∷ wordNo 5 ∷ wordNo 6 ∷ [])
-unfolding after through stepping sound done firstNot isIdentity isCallable nextBlock isBlock mayHold trafficOf meaningOf heardOf callOf call3Of isCallable7 firstOf isWords listened trafficIn traffic signalsIn
+unfolding after through stepping sound owedExists passes codeSignals holdsNeither done firstNot isIdentity isCallable nextBlock isBlock mayHold trafficOf meaningOf heardOf callOf call3Of isCallable7 firstOf isWords listened trafficIn traffic signalsIn
 and-answers =
     subst (λ (c : Circuit). CarriedAll (c .from-sender) (signals3 4 5 6 ∷ []) (wordNo 4 ∷ wordNo 5 ∷ wordNo 6 ∷ [])) (sym (computed call-placed start to-the-end)) (record { taken = refl; accepted = refl; printed = refl; is-the-traffic = refl; confirmed = refl })
 
 pub both-stand-by-again : let c = after call-placed (run-of start to-the-end) in (c .hearer .place ≡ resting 0) × (c .sender .place ≡ resting 0)
-unfolding after through stepping sound done firstNot isIdentity isCallable nextBlock isBlock mayHold trafficOf meaningOf heardOf callOf call3Of isCallable7 firstOf isWords listened trafficIn
+unfolding after through stepping sound owedExists passes codeSignals holdsNeither done firstNot isIdentity isCallable nextBlock isBlock mayHold trafficOf meaningOf heardOf callOf call3Of isCallable7 firstOf isWords listened trafficIn
 both-stand-by-again =
     subst (λ (c : Circuit). (c .hearer .place ≡ resting 0) × (c .sender .place ≡ resting 0)) (sym (computed call-placed start to-the-end)) (refl, refl)
 
@@ -114,6 +119,6 @@ call-offered = calling-on ++ clear (Offer.Call pear) ∷ clear none ∷ []
 
 pub gives-βββ : let c = after call-placed (run-of start call-offered) in
     (c .from-hearer .taken ≡ words beta beta beta ∷ []) × (c .from-hearer .accepted ≡ words beta beta beta ∷ [])
-unfolding after through stepping sound done firstNot isIdentity isCallable nextBlock isBlock mayHold trafficOf meaningOf heardOf callOf call3Of isCallable7 firstOf isWords listened trafficIn
+unfolding after through stepping sound owedExists passes codeSignals holdsNeither done firstNot isIdentity isCallable nextBlock isBlock mayHold trafficOf meaningOf heardOf callOf call3Of isCallable7 firstOf isWords listened trafficIn
 gives-βββ =
     subst (λ (c : Circuit). (c .from-hearer .taken ≡ words beta beta beta ∷ []) × (c .from-hearer .accepted ≡ words beta beta beta ∷ [])) (sym (computed call-placed start call-offered)) (refl, refl)

@@ -45,14 +45,14 @@ use Rattle.mode_a.specs.Heard.{First, Cs, Cs3, Rq, Else, Other, firstOf, mayHol
 use Rattle.mode_a.specs.Rows.{bothHeard, allHeard, heardThen, callsOn, calling, calling3, atStage, identifying, sameBlock, hearing, isLast, answering, rowOf}
 use Rattle.mode_a.specs.Step.{knowing, isOver, done}
 use Rattle.runs.specs.Places.{isSending, isOpening, isStandBy}
-use Rattle.runs.specs.Runs.{InOrder, ofCs}
+use Rattle.runs.specs.Runs.{ofCs}
 use Rattle.runs.proofs.LetterLaws.{letteredAt, letters-of}
 use Rattle.runs.proofs.RowLaws.{by-calling3, by-identifying}
 use Rattle.runs.proofs.StepLaws.{placed, by-meet}
 use Rattle.mode_a.proofs.HeardLaws.{Says, first-says}
 use Rattle.circuit.proofs.DamageLaws.{words-are, Mangled, whole-words, no-block, no-words, FirstIs, said, unsaid, four-letters, whole-call, whole-call3, whole-told}
 use Rattle.circuit.proofs.Link.{none, saysOn, Calls, c1-any, c1-silence, c2-call, c2-asks, c3-call, c3-answer, i1-call, i1-silence, i2-call, i2-any, i3-block, i3-answer, i4-rqs, i4-asks, i5-rqs, i5-cs3, i6-block, i6-silence, i7-any, i7-silence, i8-any, i8-silence, i9-alphas, i9-any, Link, s3-any, e2-any, e2-any′, e3-silence, e4-any, calls, aloud, stays, nothing-new, After}
-use Rattle.circuit.proofs.ReplyLaws.{ααα-signals, βαβ-signals, RQ×3-signals, asks-first, call-no-block, goes, again, or-rests, owed-nothing, taken, silence-no-call, alphas-no-call, single-no-call, silence-first, other-third, first-of, Row, Quiet, not-accepted, ended, standing, not-called}
+use Rattle.circuit.proofs.ReplyLaws.{ααα-signals, βαβ-signals, RQ×3-signals, asks-first, call-no-block, goes, again, or-rests, owed-nothing, toTake, Fine, taken, silence-no-call, alphas-no-call, single-no-call, silence-first, other-third, first-of, Row, Quiet, not-accepted, ended, standing, not-called}
 
 -- What a station that is Lost would say: any call block, any identification block of seven letters of table 3a.
 abbrev anybody : Seven
@@ -346,7 +346,7 @@ module _ (s : Station) (b : Words) (o : Offer) where
   -- Calling: the next call block, or the call has failed; and where it hears the number of a station at Receiving, the second time
   call-on : (c : Called) (m : Mark) {p : Place} → ((n : ℕ) → Link p (resting n) silence none none) →
       Link p (Calling (record { to = c .to; sent = c .sent + 1; last = m })) (nextBlock (c .to) (c .sent)) none none → (t : Bool) →
-      After false o none none p (done (placed s (Calling c)) b o (if t then Rests 128 silence else Goes (Calling (record { to = c .to; sent = c .sent + 1; last = m })) (nextBlock (c .to) (c .sent)))) [] []
+      After false (toTake s o) none none p (done (placed s (Calling c)) b o (if t then Rests 128 silence else Goes (Calling (record { to = c .to; sent = c .sent + 1; last = m })) (nextBlock (c .to) (c .sent)))) [] []
   unfolding done
   call-on c m l k true = goes _ _ refl (l _)
   call-on c m l k false = goes _ _ refl k
@@ -360,21 +360,21 @@ module _ (s : Station) (b : Words) (o : Offer) where
   unanswered c Rq e l k = call-on c Mark.None l k (leb 128 (c .sent))
   unanswered c (Else x) e l k = call-on c Mark.None l k (leb 128 (c .sent))
 
-  answered-by : (c : Called) (n : Number) (f : First) → InOrder (s .own) o → FirstIs (Cs n) f →
+  answered-by : (c : Called) (n : Number) (f : First) → Fine s o → FirstIs (Cs n) f →
       Row s b o (Calling c) (Receiving n) none none (calling c f) f (isBlock b)
   unfolding done
   answered-by c n f i said = go (marks (c .last) n) refl
     where
       go : (t : Bool) → marks (c .last) n ≡ t →
-          After t o none none (Receiving n) (done (placed s (Calling c)) b o (if t then Reaches (Four (c .to)) n else callsOn c (markOf n))) [] []
-      go true e = taken (knowing (placed s (Calling c)) (Four (c .to))) n (s .own) o i owed-nothing
+          After t (toTake s o) none none (Receiving n) (done (placed s (Calling c)) b o (if t then Reaches (Four (c .to)) n else callsOn c (markOf n))) [] []
+      go true e = taken (knowing (placed s (Calling c)) (Four (c .to))) n o i owed-nothing
       go false e = let k = call-no-block (c .to) (c .sent) in call-on c (markOf n) (λ n. e3-silence) (calls (c2-call (k .0) (k .1))) (leb 128 (c .sent))
   answered-by c n f i unsaid = let k = call-no-block (c .to) (c .sent) in call-on c Mark.None (λ n. e3-silence) (calls (c2-call (k .0) (k .1))) (leb 128 (c .sent))
 
   -- Calling with three blocks: the same, where it hears nothing
   call-on3 : (c : Called3) {p : Place} → ((n : ℕ) → Link p (resting n) silence none none) →
       Link p (Calling3 (record { to = c .to; sent = c .sent + 1 })) (nextBlock3 (c .to) (c .sent)) none none → (t : Bool) →
-      After false o none none p (done (placed s (Calling3 c)) b o (if t then Bars (c .to) else Goes (Calling3 (record { to = c .to; sent = c .sent + 1 })) (nextBlock3 (c .to) (c .sent)))) [] []
+      After false (toTake s o) none none p (done (placed s (Calling3 c)) b o (if t then Bars (c .to) else Goes (Calling3 (record { to = c .to; sent = c .sent + 1 })) (nextBlock3 (c .to) (c .sent)))) [] []
   unfolding done
   call-on3 c l k true = goes _ _ refl (l _)
   call-on3 c l k false = goes _ _ refl k
@@ -393,7 +393,7 @@ module _ (s : Station) (b : Words) (o : Offer) where
       Row s b o (Calling3 c) p none none (calling3 (s .own .seven) c f) f (isBlock b)
   unfolding done
   calls-three c {p} f four five rest on =
-      by-calling3 (λ (d : Doing). After false o none none p (done (placed s (Calling3 c)) b o d) [] []) (s .own .seven) c f (λ e. goes _ _ refl four) (λ e. goes _ _ refl (five _)) (goes _ _ refl (rest _)) (λ e. goes _ _ refl on)
+      by-calling3 (λ (d : Doing). After false (toTake s o) none none p (done (placed s (Calling3 c)) b o d) [] []) (s .own .seven) c f (λ e. goes _ _ refl four) (λ e. goes _ _ refl (five _)) (goes _ _ refl (rest _)) (λ e. goes _ _ refl on)
 
   -- Identifying that hears neither CS1 nor CS3: its block again or the next, the end procedure, or Stand-by
   identifies-on : (i : Identified) {p : Place} (f : First) → saysOn f ≡ true →
@@ -402,7 +402,7 @@ module _ (s : Station) (b : Words) (o : Offer) where
       Row s b o (Identifying i) p none none (identifying (s .own .seven) i f) f (isBlock b)
   unfolding done
   identifies-on i {p} f e block end rest =
-      rw (no-cs f e) (by-identifying (λ (d : Doing). After false o none none p (done (placed s (Identifying i)) b o d) [] []) (s .own .seven) i f (λ w. or-rests (placed s (Identifying i)) b _ _ (block i) rest) (λ w l. goes _ _ refl (block _)) (λ v g w l k. or-rests (placed s (Identifying i)) b _ _ (block _) rest) (λ v g w l. goes _ _ refl (end _)) (λ w l. goes _ _ refl (rest _)) (λ g l. absurd (true≢false (sym e ∙ ap saysOn g))) (λ g l. absurd (true≢false (sym e ∙ ap saysOn g))))
+      rw (no-cs f e) (by-identifying (λ (d : Doing). After false (toTake s o) none none p (done (placed s (Identifying i)) b o d) [] []) (s .own .seven) i f (λ w. or-rests (placed s (Identifying i)) b o _ _ (block i) rest) (λ w l. goes _ _ refl (block _)) (λ v g w l k. or-rests (placed s (Identifying i)) b o _ _ (block _) rest) (λ v g w l. goes _ _ refl (end _)) (λ w l. goes _ _ refl (rest _)) (λ g l. absurd (true≢false (sym e ∙ ap saysOn g))) (λ g l. absurd (true≢false (sym e ∙ ap saysOn g))))
     where
       no-cs : (f : First) → saysOn f ≡ true → ofCs (λ (n : Number). same n One && isLast (i .stage)) f ≡ false
       no-cs (Cs n) e = absurd (true≢false (sym e))
@@ -413,11 +413,11 @@ module _ (s : Station) (b : Words) (o : Offer) where
   -- Answering: whatever identification block it hears, it says CS4, RQ or a check-sum, or it has said the 32nd and goes to Stand-by
   module _ {p : Place} (g : Gathered) (rest : (n : ℕ) → Link p (resting n) silence none none) where
     abbrev Heeds : Doing → Type 0
-    Heeds d = After false o none none p (done (placed s (Answering g)) b o d) [] []
+    Heeds d = After false (toTake s o) none none p (done (placed s (Answering g)) b o d) [] []
 
     module _ (stay : (j : Gathered) (v : ℕ) → saysOn (firstOf v) ≡ true → Link p (Answering j) (single v) none none) where
       asks-on : (h : Seven) (t : Stage) (v : ℕ) → saysOn (firstOf v) ≡ true → Heeds (Again (Answering (record { stage = t; got = h })) (single v))
-      asks-on h t v e = or-rests (placed s (Answering g)) b _ _ (stay _ v e) rest
+      asks-on h t v e = or-rests (placed s (Answering g)) b o _ _ (stay _ v e) rest
 
       gathers-on : (h : Seven) (t : Stage) (x y z : ℕ) → Heeds (Goes (Answering (record { stage = t; got = h })) (single (checkSum x y z)))
       unfolding done
@@ -455,7 +455,7 @@ module _ (s : Station) (b : Words) (o : Offer) where
         ((v : ℕ) → saysOn (firstOf v) ≡ true → Link p (Answering (record { stage = g .stage; got = g .got })) (single v) none none) →
         Heeds (answering (s .own .seven) g (heardOf (s .own) b))
     tells-nothing l i k stay =
-        subst Heeds (sym (asks-again (s .own) g b l i k)) (or-rests (placed s (Answering g)) b _ _ (stay (asked (g .stage)) (asked-says-on (g .stage))) rest)
+        subst Heeds (sym (asks-again (s .own) g b l i k)) (or-rests (placed s (Answering g)) b o _ _ (stay (asked (g .stage)) (asked-says-on (g .stage))) rest)
 
   -- I3: RQ RQ RQ is heard where the other is at its fourth stage: identification is over, and the slave sends CS1, or CS3
   told-all : (g : Gathered) (i : Identified) (y : Seven) → isCallable7 y ≡ true → Mangled (identityBlock y (i .stage)) b →
@@ -471,31 +471,31 @@ module _ (s : Station) (b : Words) (o : Offer) where
       fourth q =
           is-last (i .stage) (sym (rqs-are (isLast (i .stage)) (identityBlock y (i .stage)) (identity-rqs y e (i .stage))) ∙ ap (λ (v : Words). isWords v RQ×3) (sym (whole-words (identityBlock y (i .stage)) b RQ×3 m RQ×3-signals q)) ∙ q)
 
-      on : After false o none none (Identifying i) (done (placed s (Answering g)) b o (hearing (s .own .seven) (g .got) (g .stage) (toldIn b))) [] []
+      on : After false (toTake s o) none none (Identifying i) (done (placed s (Answering g)) b o (hearing (s .own .seven) (g .got) (g .stage) (toldIn b))) [] []
       on = heeds g (λ n. calls (i6-silence refl refl)) (λ j v a. calls (i3-answer a)) (s .own .seven) (g .got) (g .stage) (toldIn b)
 
       go : (t : Bool) → isWords b RQ×3 ≡ t → (u : Bool) → isLast (g .stage) ≡ u →
-          After false o none none (Identifying i) (done (placed s (Answering g)) b o (if t && u then Meets (g .got) else hearing (s .own .seven) (g .got) (g .stage) (toldIn b))) [] []
+          After false (toTake s o) none none (Identifying i) (done (placed s (Answering g)) b o (if t && u then Meets (g .got) else hearing (s .own .seven) (g .got) (g .stage) (toldIn b))) [] []
       go false q u l = on
       go true q false l = on
       go true q true l =
-          by-meet (λ (r : Reply). After false o none none (Identifying i) r [] []) _ (isOver o) (record { place = _; word = _; ox′ = _; op′ = _; link = calls (i5-cs3 (fourth q)); says = aloud refl refl; sends = stays; hears = nothing-new }) (goes _ _ refl (calls (i4-asks (fourth q))))
+          by-meet (λ (r : Reply). After false (toTake s o) none none (Identifying i) r [] []) _ (isOver o) (record { place = _; word = _; ox′ = _; op′ = _; link = calls (i5-cs3 (fourth q)); says = aloud refl refl; sends = stays; hears = nothing-new }) (goes _ _ refl (calls (i4-asks (fourth q))))
 
   -- I4, I5: CS1 or CS3 is heard at the fourth stage
   module _ (i : Identified) (four : i .stage ≡ Stage.Four) where
     last-again : {p : Place} → Link p (Identifying i) RQ×3 none none → ((n : ℕ) → Link p (resting n) silence none none) →
-        After false o none none p (done (placed s (Identifying i)) b o (sameBlock (s .own .seven) i)) [] []
+        After false (toTake s o) none none p (done (placed s (Identifying i)) b o (sameBlock (s .own .seven) i)) [] []
     last-again {p} l rest =
-        or-rests (placed s (Identifying i)) b (Identifying i) (identityBlock (s .own .seven) (i .stage)) (subst (λ (t : Stage). Link p (Identifying i) (identityBlock (s .own .seven) t) none none) (sym four) l) rest
+        or-rests (placed s (Identifying i)) b o (Identifying i) (identityBlock (s .own .seven) (i .stage)) (subst (λ (t : Stage). Link p (Identifying i) (identityBlock (s .own .seven) t) none none) (sym four) l) rest
 
     -- the row is that of the fourth stage
     abbrev At : Place → First → Stage → Type 0
-    At p f t = After (ofCs (λ n. same n One && isLast t) f) o none none p (done (placed s (Identifying i)) b o (atStage (s .own .seven) i f t)) [] []
+    At p f t = After (ofCs (λ n. same n One && isLast t) f) (toTake s o) none none p (done (placed s (Identifying i)) b o (atStage (s .own .seven) i f t)) [] []
 
-    asked-first : (f : First) → InOrder (s .own) o → FirstIs (Cs One) f →
+    asked-first : (f : First) → Fine s o → FirstIs (Cs One) f →
         Row s b o (Identifying i) (Receiving One) none none (identifying (s .own .seven) i f) f (isBlock b)
     unfolding done
-    asked-first f y said = subst (At (Receiving One) (Cs One)) (sym four) (taken (knowing (placed s (Identifying i)) (Known (i .to))) One (s .own) o y owed-nothing)
+    asked-first f y said = subst (At (Receiving One) (Cs One)) (sym four) (taken (knowing (placed s (Identifying i)) (Known (i .to))) One o y owed-nothing)
     asked-first f y unsaid = subst (At (Receiving One) (Else Other)) (sym four) (last-again (calls (i4-rqs four)) (λ n. e3-silence))
 
     asked-to-turn : (f : First) → FirstIs Cs3 f → Row s b o (Identifying i) Asking none none (identifying (s .own .seven) i f) f (isBlock b)
@@ -504,7 +504,7 @@ module _ (s : Station) (b : Words) (o : Offer) where
     asked-to-turn f unsaid = subst (At Asking (Else Other)) (sym four) (last-again (calls (i5-rqs four)) (λ n. calls i8-silence))
 
   -- every link of a call
-  pub call-acts : {x p : Place} {w : Words} → Calls x p w → Mangled w b → InOrder (s .own) o → letteredAt (s .own) x →
+  pub call-acts : {x p : Place} {w : Words} → Calls x p w → Mangled w b → Fine s o → letteredAt (s .own) x →
       (isStandBy x ≡ true → Quiet (done (placed s x) b o (rowOf (s .own) (s .role) x (heardOf (s .own) b)))) →
       Row s b o x p none none (rowOf (s .own) (s .role) x (heardOf (s .own) b)) (firstOf (b .0)) (isBlock b)
   unfolding heardOf firstOf isBlock mayHold trafficOf meaningOf isWords done

@@ -18,6 +18,7 @@ use Rattle.mode_a.specs.declared.Stage.{Stage}
 use Rattle.mode_a.specs.declared.Identity.{Identity}
 use Rattle.identity.specs.declared.Seven.{Seven}
 use Rattle.mode_a.specs.declared.Own.{Own}
+use Rattle.mode_a.specs.declared.Owed.{Owed}
 use Rattle.mode_a.specs.declared.Peer.{Peer}
 use Rattle.mode_a.specs.declared.Peer.the-variants.{Nobody, Four, Known, Barred}
 use Rattle.mode_a.specs.declared.Place.{Place}
@@ -130,12 +131,23 @@ seven-is : (i : Seven) (k : Seven → Circuit) → seven i k ≡ k i
 seven-is i k =
     identity-is (firstFour i) (λ x. block (lastThree i) (λ y. k (sevenOf x y))) ∙ block-is (lastThree i) (λ y. k (sevenOf (firstFour i) y))
 
+-- the code is handed on as it stands: no step changes it
 abbrev own : Own → (Own → Circuit) → Circuit
-own o k = identity (o .four) (λ i. seven (o .seven) (λ j. k (record { four = i; seven = j })))
+own o k = identity (o .four) (λ i. seven (o .seven) (λ j. k (record { four = i; seven = j; code = o .code })))
 
 own-is : (o : Own) (k : Own → Circuit) → own o k ≡ k o
 own-is o k =
-    identity-is (o .four) (λ i. seven (o .seven) (λ j. k (record { four = i; seven = j }))) ∙ seven-is (o .seven) (λ j. k (record { four = o .four; seven = j }))
+    identity-is (o .four) (λ i. seven (o .seven) (λ j. k (record { four = i; seven = j; code = o .code }))) ∙ seven-is (o .seven) (λ j. k (record { four = o .four; seven = j; code = o .code }))
+
+abbrev owed : Owed → (Owed → Circuit) → Circuit
+owed Owed.Nothing k = k Owed.Nothing
+owed (Owed.Back i) k = number i (λ i. k (Owed.Back i))
+owed (Owed.Keep i) k = number i (λ i. k (Owed.Keep i))
+
+owed-is : (o : Owed) (k : Owed → Circuit) → owed o k ≡ k o
+owed-is Owed.Nothing k = refl
+owed-is (Owed.Back i) k = number-is i (λ i. k (Owed.Back i))
+owed-is (Owed.Keep i) k = number-is i (λ i. k (Owed.Keep i))
 
 abbrev peer : Peer → (Peer → Circuit) → Circuit
 peer Nobody k = k Nobody
@@ -215,17 +227,18 @@ plus-is true k = refl
 plus-is false k = refl
 
 abbrev station : Station → (Station → Circuit) → Circuit
-station s k = role (s .role) (λ r. place (s .place) (λ p. number (s .count) (λ n. case-of (s .case) (λ c. plus-of (s .plus) (λ m. own (s .own) (λ i. peer (s .other) (λ q. k (record { role = r; place = p; count = n; case = c; plus = m; own = i; other = q }))))))))
+station s k = role (s .role) (λ r. place (s .place) (λ p. number (s .count) (λ n. case-of (s .case) (λ c. plus-of (s .plus) (λ m. own (s .own) (λ i. peer (s .other) (λ q. owed (s .owed) (λ w. k (record { role = r; place = p; count = n; case = c; plus = m; own = i; other = q; owed = w })))))))))
 
 station-is : (s : Station) (k : Station → Circuit) → station s k ≡ k s
 station-is s k =
-    role-is (s .role) (λ r. place (s .place) (λ p. number (s .count) (λ n. case-of (s .case) (λ c. plus-of (s .plus) (λ m. own (s .own) (λ i. peer (s .other) (λ q. k (record { role = r; place = p; count = n; case = c; plus = m; own = i; other = q }))))))))
-    ∙ place-is (s .place) (λ p. number (s .count) (λ n. case-of (s .case) (λ c. plus-of (s .plus) (λ m. own (s .own) (λ i. peer (s .other) (λ q. k (record { role = s .role; place = p; count = n; case = c; plus = m; own = i; other = q })))))))
-    ∙ number-is (s .count) (λ n. case-of (s .case) (λ c. plus-of (s .plus) (λ m. own (s .own) (λ i. peer (s .other) (λ q. k (record { role = s .role; place = s .place; count = n; case = c; plus = m; own = i; other = q }))))))
-    ∙ case-is (s .case) (λ c. plus-of (s .plus) (λ m. own (s .own) (λ i. peer (s .other) (λ q. k (record { role = s .role; place = s .place; count = s .count; case = c; plus = m; own = i; other = q })))))
-    ∙ plus-is (s .plus) (λ m. own (s .own) (λ i. peer (s .other) (λ q. k (record { role = s .role; place = s .place; count = s .count; case = s .case; plus = m; own = i; other = q }))))
-    ∙ own-is (s .own) (λ i. peer (s .other) (λ q. k (record { role = s .role; place = s .place; count = s .count; case = s .case; plus = s .plus; own = i; other = q })))
-    ∙ peer-is (s .other) (λ q. k (record { role = s .role; place = s .place; count = s .count; case = s .case; plus = s .plus; own = s .own; other = q }))
+    role-is (s .role) (λ r. place (s .place) (λ p. number (s .count) (λ n. case-of (s .case) (λ c. plus-of (s .plus) (λ m. own (s .own) (λ i. peer (s .other) (λ q. owed (s .owed) (λ w. k (record { role = r; place = p; count = n; case = c; plus = m; own = i; other = q; owed = w })))))))))
+    ∙ place-is (s .place) (λ p. number (s .count) (λ n. case-of (s .case) (λ c. plus-of (s .plus) (λ m. own (s .own) (λ i. peer (s .other) (λ q. owed (s .owed) (λ w. k (record { role = s .role; place = p; count = n; case = c; plus = m; own = i; other = q; owed = w }))))))))
+    ∙ number-is (s .count) (λ n. case-of (s .case) (λ c. plus-of (s .plus) (λ m. own (s .own) (λ i. peer (s .other) (λ q. owed (s .owed) (λ w. k (record { role = s .role; place = s .place; count = n; case = c; plus = m; own = i; other = q; owed = w })))))))
+    ∙ case-is (s .case) (λ c. plus-of (s .plus) (λ m. own (s .own) (λ i. peer (s .other) (λ q. owed (s .owed) (λ w. k (record { role = s .role; place = s .place; count = s .count; case = c; plus = m; own = i; other = q; owed = w }))))))
+    ∙ plus-is (s .plus) (λ m. own (s .own) (λ i. peer (s .other) (λ q. owed (s .owed) (λ w. k (record { role = s .role; place = s .place; count = s .count; case = s .case; plus = m; own = i; other = q; owed = w })))))
+    ∙ own-is (s .own) (λ i. peer (s .other) (λ q. owed (s .owed) (λ w. k (record { role = s .role; place = s .place; count = s .count; case = s .case; plus = s .plus; own = i; other = q; owed = w }))))
+    ∙ peer-is (s .other) (λ q. owed (s .owed) (λ w. k (record { role = s .role; place = s .place; count = s .count; case = s .case; plus = s .plus; own = s .own; other = q; owed = w })))
+    ∙ owed-is (s .owed) (λ w. k (record { role = s .role; place = s .place; count = s .count; case = s .case; plus = s .plus; own = s .own; other = s .other; owed = w }))
 
 abbrev direction : Direction → (Direction → Circuit) → Circuit
 direction d k = blocks (d .taken) (λ t. blocks (d .accepted) (λ a. numbers (d .printed) (λ p. blocks (d .confirmed) (λ c. k (record { taken = t; accepted = a; printed = p; confirmed = c })))))

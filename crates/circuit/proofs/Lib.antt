@@ -14,6 +14,7 @@
 --     Runs         single runs: it says something
 --     CallRuns     a call, traffic and a turn
 --     Call3Runs    a call of three blocks, identification, traffic and a turn
+--     AnswerRuns   who are you, and the answer
 --     Refuted      stronger sentences, and wrong readings of the rows
 pub mod DamageLaws
 pub mod Link
@@ -30,4 +31,5 @@ pub mod Computed
 pub mod Runs
 pub mod CallRuns
 pub mod Call3Runs
+pub mod AnswerRuns
 pub mod Refuted

@@ -31,7 +31,7 @@
 -- A station that is Lost is linked by the place where it was, as if it were still there and all its bursts were damaged.
 -- Assumes nothing.
 use mathlib.Core.Path.{_≡_}
-use mathlib.Core.Bool.{Bool, true, false, not, _||_}
+use mathlib.Core.Bool.{Bool, true, false, not, _&&_, _||_}
 use mathlib.Core.List.{List, [], _∷_, _++_}
 use Prim.Native.Nat.{ℕ}
 use lib.Dec.{eqb}
@@ -55,7 +55,6 @@ use Rattle.mode_a.specs.declared.Called3.{Called3}
 use Rattle.mode_a.specs.declared.Identified.{Identified}
 use Rattle.mode_a.specs.declared.Gathered.{Gathered}
 use Rattle.mode_a.specs.declared.Place.the-variants.{Sending, Turning, Opening, Ending, Receiving, Asking, StandBy, Lost, Calling, Calling3, Identifying, Answering}
-use Rattle.mode_a.specs.declared.Offer.{Offer}
 use Rattle.mode_a.specs.declared.Station.{Station}
 use Rattle.mode_a.specs.declared.Reply.{Reply}
 use Rattle.mode_a.specs.Calls.{nextBlock, nextBlock3}
@@ -63,10 +62,13 @@ use Rattle.mode_a.specs.Identification.{identityBlock}
 use Rattle.mode_a.specs.Station.{listOf, single, silence, ααα, RQ×3, other, asksFor, marks}
 use Rattle.mode_a.specs.Heard.{First, Cs, Cs3, Rq, Else, firstOf, isBlock, isWords}
 use Rattle.mode_a.specs.Rows.{requests, isLast}
+use Rattle.laws.specs.Choice.{if_then_else_}
+use Rattle.runs.specs.Places.{isSending}
 use Rattle.runs.proofs.LetterLaws.{Lettered}
-use Rattle.circuit.specs.Circuit.{traffic, signalsIn, Direction, Circuit, takenIf, printedBy}
+use Rattle.circuit.specs.Circuit.{traffic, signalsIn, Direction, Circuit, printedBy}
 
--- what is owed in a direction: nothing, or the confirmation of a block that the other has not accepted, or has
+-- what is owed in a direction: nothing, or the confirmation of a block that the other has not accepted, or has. (What a station owes of an
+-- answer-back, the `Owed` of mode A, is another thing, and no part of a phase: where it owes a block, it takes that for the offer's.)
 pub data Owed : Type 0 where
   none : Owed
   unheard : Words → Owed
@@ -197,13 +199,13 @@ pub data Came : Owed → Owed → List Words → List ℕ → Type 0 where
   nothing-new : {o : Owed} → Came o o [] []
   came : {b : Words} → Came (unheard b) (heard b) (b ∷ []) (traffic (listOf b))
 
--- the circuit after the reply of a station that heard: linked again. t tells whether its row takes the offer.
-pub record After (t : Bool) (o : Offer) (ox op : Owed) (p : Place) (r : Reply) (confirmed accepted : List Words) : Type 0 where
+-- the circuit after the reply of a station that heard: linked again. t tells whether its row takes, and l is the block that it then takes.
+pub record After (t : Bool) (l : List Words) (ox op : Owed) (p : Place) (r : Reply) (confirmed accepted : List Words) : Type 0 where
   pub place : Place
   pub word : Words
   pub ox′ : Owed
   pub op′ : Owed
   pub link : Link p place word op′ ox′
   pub says : Says (r .station) place (r .sent) word
-  pub sends : Moved ox ox′ (takenIf t o r) confirmed
+  pub sends : Moved ox ox′ (if t && isSending (r .station .place) then l else []) confirmed
   pub hears : Came op op′ accepted (printedBy r)

@@ -187,7 +187,7 @@ module _
         go (inr z) = block-now (λ y. in-time (Receiving (h .number)) refl (sym x ∙ y)) (z .0 ∙ at) (z .1) i none-now (u .accepted-is)
     by p f o other-number x j u =
         let y = answers (c .hearer) (heard e (c .burst)) (e .offer) r is in
-        confirmed (confirms-by f (first-word ∙ j) ∙ rw (same-other (h .number))) (u .accepted-is) (took (e .offer) (y .is-fine) x (y .is-done ∙ rw (at, first-word, j, same-other (h .number))))
+        confirmed (confirms-by f (first-word ∙ j) ∙ rw (same-other (h .number))) (u .accepted-is) (took (e .offer) (y .is-passed, y .is-fine) x (y .is-done ∙ rw (at, first-word, j, same-other (h .number))))
     by p f o third x j u =
         let y = answers (c .hearer) (heard e (c .burst)) (e .offer) r is in
         confirmed (confirms-by f (first-word ∙ j)) (u .accepted-is) (turns {n = h .number} x (y .is-done ∙ rw (at, first-word, j)))

@@ -5,7 +5,7 @@
 --                      (right-carries, right-keeps, right-exchanges)
 -- Assumes nothing.
 use mathlib.Core.Path.{_≡_, refl, ap, subst, sym, _∙_}
-use mathlib.Core.Bool.{true, false}
+use mathlib.Core.Bool.{true, false, true≢false}
 use mathlib.Core.Logic.{_⊎_, inl, inr}
 use mathlib.Core.List.{List, [], _∷_, _++_}
 use Prim.Native.Nat.{ℕ, zero, suc, _≤_}
@@ -13,7 +13,7 @@ use native.Mathlib.Omega.{arith}
 use lib.ListN.{length, getD}
 use Rattle.laws.specs.Choice.{if_then_else_}
 use Rattle.signals.specs.declared.Case.the-variants.{Letters}
-use Rattle.signals.specs.Meaning.{meaningOf, trafficOf, wordNo, figures, cs2, cs3}
+use Rattle.signals.specs.Meaning.{meaningOf, trafficOf, wordNo, figures, beta, cs2, cs3}
 use Rattle.signals.specs.Numbers.{Answer, answered, refused, firstNot}
 use Rattle.mode_a.specs.declared.Role.{Role}
 use Rattle.mode_a.specs.declared.Role.the-variants.{Slave}
@@ -22,6 +22,8 @@ use Rattle.mode_a.specs.declared.Succession.{Succession}
 use Rattle.mode_a.specs.declared.Peer.the-variants.{Nobody}
 use Rattle.mode_a.specs.declared.Number.{Number}
 use Rattle.mode_a.specs.declared.Own.{Own}
+use Rattle.mode_a.specs.declared.Code.{Code}
+use Rattle.mode_a.specs.declared.Owed.{Owed}
 use Rattle.mode_a.specs.declared.Number.the-variants.{One, Two}
 use Rattle.mode_a.specs.declared.Words.{Words}
 use Rattle.mode_a.specs.declared.Held.{Held}
@@ -32,28 +34,30 @@ use Rattle.mode_a.specs.declared.Offer.{Offer}
 use Rattle.mode_a.specs.declared.Doing.{Doing}
 use Rattle.mode_a.specs.declared.Doing.the-variants.{Repeats, Goes, Takes, Opens, Rests}
 use Rattle.mode_a.specs.declared.Reply.{Reply}
-use Rattle.mode_a.specs.Station.{words, single, silence, RQ×3, other, resting, freshAt}
+use Rattle.mode_a.specs.Station.{words, single, silence, RQ×3, other, noCode, resting, freshAt}
 use Rattle.mode_a.specs.Heard.{First, Cs, Cs3, Rq, Else, Further, Heard, furtherOf, firstOf, mayHold, isBlock, isWords, callOf, call3Of, heardOf}
 use Rattle.identity.specs.Table3.{isIdentity}
 use Rattle.identity.specs.Sums.{isCallable7}
 use Rattle.identity.proofs.Examples.{PEARDBY}
 use Rattle.mode_a.specs.Calls.{isCallable, nextBlock3}
 use Rattle.mode_a.specs.Identification.{toldIn}
-use Rattle.mode_a.specs.Over.{query, cross, listened}
+use Rattle.mode_a.specs.Over.{query, cross, who, listened}
 use Rattle.mode_a.specs.Rows.{rowOf, sending, opening, asking, receiving}
+use Rattle.mode_a.specs.Answerback.{codeSignals, holdsNeither, passes, answerKeeping, answerOf, blockOwed, owedThen, owedExists}
 use Rattle.mode_a.specs.Step.{called3, isOver, trafficIn, done, sound, stepping}
 use Rattle.signals.specs.Damage.{kept, hurt}
 use Rattle.runs.specs.Places.{isOpening, isAsking}
-use Rattle.runs.specs.Runs.{start, _▷_, isAnswered}
+use Rattle.runs.specs.Runs.{start, _▷_, isAnswered, isTaken}
 use Rattle.runs.proofs.StepLaws.{answers}
-use Rattle.circuit.specs.Circuit.{Event, heard, Whole, Run, Direction, nothingYet, Circuit, fresh, said, confirmedBy, answeredBy, goesOn, next, after, AllHarmless, NoCallPlaced}
+use Rattle.circuit.specs.Circuit.{Event, heard, Whole, Run, Direction, nothingYet, Circuit, freshWith, fresh, said, confirmedBy, answeredBy, goesOn, next, after, AllHarmless, NoCallPlaced}
 use Rattle.circuit.specs.Starts.{both-fresh, Call3Placed}
 use Rattle.circuit.specs.Demand.{Carried, Kept, Exchanged, Confirms, TimedOutFirst, InTime, Demand3}
 use Rattle.circuit.proofs.TimeLaws.{in-time}
 use Rattle.circuit.proofs.Theorem.{demand3}
 use Rattle.circuit.proofs.Computed.{run-of, through, computed}
 use Rattle.circuit.proofs.Call3Runs.{calling}
-use Rattle.circuit.proofs.Runs.{clear, faded, struck, signals3, text, none, isOrdinary, ordinary}
+use Rattle.circuit.proofs.AnswerRuns.{shortCode}
+use Rattle.circuit.proofs.Runs.{clear, faded, struck, signals3, text, none, isOrdinary, ordinary, codes-pass}
 
 -- no block where there is one, one where there are two
 not-none : (n : ℕ) → 0 ≡ suc n → ⊥
@@ -86,7 +90,7 @@ if-in-time {A} {c} {d} (inr z) t = go (z .lost)
 -- printing is never ahead
 no-lock-step : ((run : Run) → AllHarmless run → NoCallPlaced fresh run → length (after fresh run .from-hearer .accepted) ≤ length (after fresh run .from-hearer .confirmed)) →
     ⊥
-unfolding AllHarmless NoCallPlaced after stepping sound done firstNot isBlock mayHold trafficOf meaningOf heardOf firstOf isWords listened trafficIn
+unfolding AllHarmless NoCallPlaced after stepping sound owedExists passes codeSignals holdsNeither done firstNot isBlock mayHold trafficOf meaningOf heardOf firstOf isWords listened trafficIn
 no-lock-step claim =
     let h : 1 ≤ 0 = claim (start ▷ clear (text 1 2 3) ▷ clear none) ((tt, (tt, tt, tt)), (tt, tt, tt)) ((tt, refl), refl) in omega arith
 
@@ -96,7 +100,7 @@ twice-damaged = start ▷ clear (text 1 2 3) ▷ struck none ▷ faded none
 
 no-single-exchange : ((run : Run) → AllHarmless run → NoCallPlaced fresh run → (h : Held) (d : Circuit) → after fresh run .sender .place ≡ Sending h → Exchanged (after fresh run) d → Confirms h (after fresh run) d ⊎ TimedOutFirst (after fresh run) d) →
     ⊥
-unfolding AllHarmless NoCallPlaced after stepping sound done firstNot isBlock mayHold trafficOf meaningOf heardOf firstOf isWords listened trafficIn
+unfolding AllHarmless NoCallPlaced after stepping sound owedExists passes codeSignals holdsNeither done firstNot isBlock mayHold trafficOf meaningOf heardOf firstOf isWords listened trafficIn
 no-single-exchange claim =
     let b = if-in-time (claim twice-damaged (((tt, (tt, tt, tt)), (tt, refl, tt)), (refl, tt, tt)) (((tt, refl), refl), refl) (record { number = One; block = signals3 1 2 3 }) _ refl (exchanged (after fresh twice-damaged) refl refl)) (in-time _ refl, in-time _ refl) in
     not-none (length (b .rest)) (ap length (b .splits))
@@ -113,7 +117,7 @@ abbrev Untimed : Circuit → Type 0
 Untimed c = (h : Held) (d g : Circuit) → c .sender .place ≡ Sending h → Exchanged c d → Exchanged d g → Confirms h c g
 
 no-untimed : ((run : Run) → AllHarmless run → NoCallPlaced fresh run → Untimed (after fresh run)) → ⊥
-unfolding AllHarmless NoCallPlaced after through stepping sound done firstNot isBlock mayHold trafficOf meaningOf heardOf firstOf isWords listened trafficIn
+unfolding AllHarmless NoCallPlaced after through stepping sound owedExists passes codeSignals holdsNeither done firstNot isBlock mayHold trafficOf meaningOf heardOf firstOf isWords listened trafficIn
 no-untimed claim =
     let f = subst Untimed (computed fresh start almost-lost) (let q = ordinary fresh almost-lost refl in claim (run-of start almost-lost) (q .harmless) (q .no-call)) in
     let b = f (record { number = One; block = signals3 1 2 3 }) _ _ refl (exchanged (through next fresh almost-lost) refl refl) (exchanged (exchange (through next fresh almost-lost)) refl refl) in
@@ -122,14 +126,14 @@ no-untimed claim =
 -- damage that looks like a signal: the block is damaged, and CS2 is heard for the CS1 that asks for it again, so that what nobody
 -- printed is confirmed
 no-disguised-damage : ((run : Run) → NoCallPlaced fresh run → Demand3 (after fresh run)) → ⊥
-unfolding NoCallPlaced after stepping sound done firstNot isBlock mayHold trafficOf meaningOf heardOf firstOf isWords listened trafficIn
+unfolding NoCallPlaced after stepping sound owedExists passes codeSignals holdsNeither done firstNot isBlock mayHold trafficOf meaningOf heardOf firstOf isWords listened trafficIn
 no-disguised-damage claim =
     let b = claim (start ▷ clear (text 1 2 3) ▷ struck none ▷ record { first = hurt cs2; second = kept; third = kept; offer = none }) (((tt, refl), refl), refl) .from-sender .confirmed-is-printed in
     not-none (length (b .rest)) (ap length (b .splits))
 
 -- and D is heard for A
 no-disguised-text : ((run : Run) → NoCallPlaced fresh run → Demand3 (after fresh run)) → ⊥
-unfolding NoCallPlaced after stepping sound done firstNot isBlock mayHold trafficOf meaningOf heardOf firstOf isWords listened trafficIn
+unfolding NoCallPlaced after stepping sound owedExists passes codeSignals holdsNeither done firstNot isBlock mayHold trafficOf meaningOf heardOf firstOf isWords listened trafficIn
 no-disguised-text claim =
     let b = claim (start ▷ clear (text 1 2 3) ▷ record { first = hurt (wordNo 4); second = kept; third = kept; offer = none }) ((tt, refl), refl) .from-hearer .accepts-a-beginning in
     let n : wordNo 1 ≡ wordNo 4 = ap (λ (l : List Words). getD l 0 silence .0) (b .splits) in
@@ -146,8 +150,9 @@ calledAt m h =
         count = 0;
         case = Letters;
         plus = false;
-        own = record { four = record { 0 = wordNo 16; 1 = wordNo 05; 2 = wordNo 22; 3 = wordNo 24 }; seven = PEARDBY };
+        own = record { four = record { 0 = wordNo 16; 1 = wordNo 05; 2 = wordNo 22; 3 = wordNo 24 }; seven = PEARDBY; code = noCode };
         other = Nobody;
+        owed = Owed.Nothing;
       };
       sender = called3 (freshAt calling) PEARDBY .station;
       burst = called3 (freshAt calling) PEARDBY .sent;
@@ -156,7 +161,7 @@ calledAt m h =
     }
 
 placed-where-none : Call3Placed PEARDBY (calledAt Mark.None Succession.None)
-unfolding sound isCallable7 isIdentity
+unfolding sound owedExists isCallable7 isIdentity
 placed-where-none = record {
   caller = freshAt calling;
   sender-is = refl;
@@ -177,7 +182,7 @@ three-blocks = clear none ∷ clear none ∷ clear none ∷ clear none ∷ clear
 
 no-two-block-first : ((m : Mark) (run : Run) → AllHarmless run → NoCallPlaced (calledAt m Succession.None) run → Demand3 (after (calledAt m Succession.None) run)) →
     ⊥
-unfolding AllHarmless NoCallPlaced after through stepping sound done firstNot isIdentity isCallable isCallable7 nextBlock3 isBlock mayHold trafficOf meaningOf heardOf callOf call3Of toldIn furtherOf firstOf isWords listened trafficIn
+unfolding AllHarmless NoCallPlaced after through stepping sound owedExists passes codeSignals holdsNeither done firstNot isIdentity isCallable isCallable7 nextBlock3 isBlock mayHold trafficOf meaningOf heardOf callOf call3Of toldIn furtherOf firstOf isWords listened trafficIn
 no-two-block-first claim =
     let q = ordinary (calledAt Mark.Two Succession.None) three-blocks refl in
     let b = subst Demand3 (computed (calledAt Mark.Two Succession.None) start three-blocks) (claim Mark.Two (run-of start three-blocks) (q .harmless) (q .no-call)) .from-hearer .accepts-a-beginning in
@@ -191,28 +196,50 @@ abbrev oversTaken : Answer Reply → List Words
 oversTaken (answered r) = if r .taken then overAsBlock (r .station .place) else []
 oversTaken (refused n v) = []
 
-abbrev withOvers : Direction → List Words → Direction
-withOvers d l = record { taken = d .taken ++ l; accepted = d .accepted; printed = d .printed; confirmed = d .confirmed }
+abbrev withTaken : Direction → List Words → Direction
+withTaken d l = record { taken = l; accepted = d .accepted; printed = d .printed; confirmed = d .confirmed }
 
-abbrev countingOvers : Circuit → Event → Circuit
-countingOvers c e =
+abbrev counting : (Circuit → Event → List Words) → Circuit → Event → Circuit
+counting taken c e =
     record {
       hearer = next c e .hearer;
       sender = next c e .sender;
       burst = next c e .burst;
       from-hearer = next c e .from-hearer;
-      from-sender = withOvers (next c e .from-sender) (oversTaken (said c e));
+      from-sender = withTaken (next c e .from-sender) (taken c e);
     }
+
+abbrev countingOvers : Circuit → Event → Circuit
+countingOvers = counting (λ c e. next c e .from-sender .taken ++ oversTaken (said c e))
 
 abbrev over-offered : List Event
 over-offered = clear none ∷ clear Offer.Over ∷ clear none ∷ clear none ∷ clear none ∷ clear (text 4 5 6) ∷ clear none ∷ []
 
 no-over-as-a-block : ((es : List Event) → isOrdinary es ≡ true → Carried (through countingOvers fresh es .from-hearer)) → ⊥
-unfolding through stepping sound done firstNot isBlock mayHold trafficOf meaningOf heardOf firstOf isWords listened trafficIn
+unfolding through stepping sound owedExists passes codeSignals holdsNeither done firstNot isBlock mayHold trafficOf meaningOf heardOf firstOf isWords listened trafficIn
 no-over-as-a-block claim =
     let b = claim over-offered refl .accepts-a-beginning in
     let n : figures ≡ wordNo 4 = ap (λ (l : List Words). getD l 0 silence .0) (b .splits) in
     omega arith
+
+-- a code that does not pass, for it asks itself: every step is refused, whatever is offered
+no-any-code : ((k j : Code) → Demand3 (freshWith k j)) → ⊥
+unfolding stepping sound owedExists passes codeSignals holdsNeither firstNot trafficOf meaningOf listened
+no-any-code claim = true≢false (sym (claim (shortCode 2 (words figures who 0) silence) noCode .refuses-only-offers (clear none) tt))
+
+-- the blocks of an answer-back not counted, for they are not reported as taken: they are accepted all the same. The empty code's are βββ.
+abbrev countingReported : Circuit → Event → Circuit
+countingReported = counting (λ c e. if isTaken (said c e) then next c e .from-sender .taken else c .from-hearer .taken)
+
+abbrev asked-who : List Event
+asked-who =
+    clear (Offer.Text (words figures who beta)) ∷ clear none ∷ clear none ∷ clear none ∷ clear none ∷ clear none ∷ clear none ∷ []
+
+no-reported-only : ((es : List Event) → isOrdinary es ≡ true → Carried (through countingReported fresh es .from-hearer)) → ⊥
+unfolding through stepping sound owedExists passes codeSignals holdsNeither blockOwed owedThen answerOf answerKeeping done firstNot isBlock mayHold trafficOf meaningOf heardOf firstOf isWords listened trafficIn
+no-reported-only claim =
+    let b = claim asked-who refl .accepts-a-beginning in
+    not-none (length (b .rest)) (ap length (b .splits))
 
 -- the end block not excepted: it gets its confirmation where its sender hears the other number
 abbrev HearsOther : Ended → Circuit → Event → Type 0
@@ -223,7 +250,7 @@ end-answer-lost = start ▷ clear Offer.End ▷ clear none ▷ faded none
 
 no-end-block : ((run : Run) → AllHarmless run → NoCallPlaced fresh run → (x : Ended) (d g : Circuit) → after fresh run .sender .place ≡ Ending x → (u : Exchanged (after fresh run) d) (v : Exchanged d g) → InTime g → HearsOther x (after fresh run) (u .out) ⊎ HearsOther x d (v .out)) →
     ⊥
-unfolding AllHarmless NoCallPlaced after stepping sound done firstNot isBlock mayHold trafficOf meaningOf heardOf firstOf isWords callOf isCallable call3Of isCallable7 isIdentity listened trafficIn exchanged
+unfolding AllHarmless NoCallPlaced after stepping sound owedExists passes codeSignals holdsNeither done firstNot isBlock mayHold trafficOf meaningOf heardOf firstOf isWords callOf isCallable call3Of isCallable7 isIdentity listened trafficIn exchanged
 no-end-block claim =
     go (claim end-answer-lost (((tt, (tt, tt, tt)), (tt, tt, tt)), (refl, tt, tt)) (((tt, refl), refl), refl) (record { number = One; total = 2 }) _ _ refl (exchanged (after fresh end-answer-lost) refl refl) (exchanged (exchange (after fresh end-answer-lost)) refl refl) (in-time _ refl, in-time _ refl))
   where
@@ -308,7 +335,7 @@ right-steps i c e = right-step c e i
 
 of-run : (es : List Event) → isOrdinary es ≡ true → Demand3 (through next fresh es)
 unfolding after AllHarmless
-of-run es h = let q = ordinary fresh es h in subst Demand3 (computed fresh start es) (demand3 fresh both-fresh (run-of start es) (q .harmless) (q .no-call))
+of-run es h = let q = ordinary fresh es h in subst Demand3 (computed fresh start es) (demand3 fresh (both-fresh noCode noCode) codes-pass (run-of start es) (q .harmless) (q .no-call))
 
 right-carries : CarriesBy rightStep
 right-carries = subst CarriesBy (sym right-steps) (λ es h. (of-run es h .from-hearer, of-run es h .from-sender))
@@ -355,7 +382,7 @@ notCountingCs3 step c e =
     else c
 
 cs3-ignored-is-caught : TwoExchangesBy (notCountingCs3 (stepBy (rowsWith ignoresCs3 opening receives asking))) → ⊥
-unfolding through stepping sound done firstNot isBlock mayHold trafficOf meaningOf heardOf firstOf isWords listened trafficIn
+unfolding through stepping sound owedExists passes codeSignals holdsNeither done firstNot isBlock mayHold trafficOf meaningOf heardOf firstOf isWords listened trafficIn
 cs3-ignored-is-caught claim =
     let b = if-in-time (claim (clear (text 1 2 3) ∷ []) refl (record { number = One; block = signals3 1 2 3 }) (clear Offer.Over) (clear none) (clear none) (clear none) refl (whole Offer.Over, whole none, refl, refl) (whole none, whole none, refl, refl)) (in-time _ refl, in-time _ refl) in
     not-none (length (b .rest)) (ap length (b .splits))
@@ -396,7 +423,7 @@ sendsAgain c e =
     }
 
 again-after-the-turn-is-caught : CarriesBy sendsAgain → ⊥
-unfolding through stepping sound done firstNot isBlock mayHold trafficOf meaningOf heardOf firstOf isWords listened trafficIn
+unfolding through stepping sound owedExists passes codeSignals holdsNeither done firstNot isBlock mayHold trafficOf meaningOf heardOf firstOf isWords listened trafficIn
 again-after-the-turn-is-caught claim =
     let b = claim (clear (text 1 2 3) ∷ clear Offer.Over ∷ clear none ∷ clear none ∷ clear none ∷ clear (text 4 5 6) ∷ clear Offer.Over ∷ clear none ∷ clear none ∷ clear none ∷ clear none ∷ clear none ∷ []) refl .0 .accepts-a-beginning in
     not-one (length (b .rest)) (ap length (b .splits))
@@ -406,7 +433,7 @@ abbrev alwaysRq : Held → First → Doing
 alwaysRq h f = Repeats RQ×3
 
 always-rq-is-caught : TwoExchangesBy (stepBy (rowsWith alwaysRq opening receives asking)) → ⊥
-unfolding through stepping sound done firstNot isBlock mayHold trafficOf meaningOf heardOf firstOf isWords listened trafficIn
+unfolding through stepping sound owedExists passes codeSignals holdsNeither done firstNot isBlock mayHold trafficOf meaningOf heardOf firstOf isWords listened trafficIn
 always-rq-is-caught claim =
     let b = if-in-time (claim (clear (text 1 2 3) ∷ struck none ∷ faded none ∷ []) refl (record { number = One; block = signals3 1 2 3 }) (clear none) (clear none) (clear none) (clear none) refl (whole none, whole none, refl, refl) (whole none, whole none, refl, refl)) (in-time _ refl, in-time _ refl) in
     not-none (length (b .rest)) (ap length (b .splits))
@@ -419,7 +446,7 @@ givesUp h Rq = Rests 0 silence
 givesUp h (Else x) = Rests 0 silence
 
 dropped-block-is-caught : KeepsBy (stepBy (rowsWith givesUp opening receives asking)) → ⊥
-unfolding through stepping sound done firstNot isBlock mayHold trafficOf meaningOf heardOf firstOf isWords listened trafficIn
+unfolding through stepping sound owedExists passes codeSignals holdsNeither done firstNot isBlock mayHold trafficOf meaningOf heardOf firstOf isWords listened trafficIn
 dropped-block-is-caught claim =
     let e = claim (clear (text 1 2 3) ∷ struck none ∷ faded none ∷ []) refl .1 .none-dropped (in-time (resting 0) refl) in
     not-none 0 (sym (ap length e))
@@ -432,7 +459,7 @@ sendsBlock h Rq = Repeats (h .block)
 sendsBlock h (Else x) = Repeats (h .block)
 
 block-for-rq-is-caught : CarriesBy (stepBy (rowsWith sendsBlock opening receives asking)) → ⊥
-unfolding through stepping sound done firstNot isBlock mayHold trafficOf meaningOf heardOf firstOf isWords listened trafficIn
+unfolding through stepping sound owedExists passes codeSignals holdsNeither done firstNot isBlock mayHold trafficOf meaningOf heardOf firstOf isWords listened trafficIn
 block-for-rq-is-caught claim =
     let b = claim (clear (text 1 2 3) ∷ clear none ∷ faded none ∷ clear none ∷ []) refl .0 .accepts-a-beginning in
     not-one (length (b .rest)) (ap length (b .splits))
@@ -442,7 +469,7 @@ abbrev opensAtRq : Heard → Doing
 opensAtRq h = if h .RQs then Opens else asking h
 
 rq-for-βαβ-is-caught : TwoExchangesBy (stepBy (rowsWith sending opening receives opensAtRq)) → ⊥
-unfolding through stepping sound done firstNot isBlock mayHold trafficOf meaningOf heardOf firstOf isWords listened trafficIn
+unfolding through stepping sound owedExists passes codeSignals holdsNeither done firstNot isBlock mayHold trafficOf meaningOf heardOf firstOf isWords listened trafficIn
 rq-for-βαβ-is-caught claim =
     let b = if-in-time (claim (clear (text 1 2 3) ∷ clear Offer.Over ∷ faded none ∷ clear none ∷ clear none ∷ []) refl (record { number = One; block = signals3 1 2 3 }) (clear none) (clear none) (clear none) (clear none) refl (whole none, whole none, refl, refl) (whole none, whole none, refl, refl)) (in-time _ refl, in-time _ refl) in
     not-none (length (b .rest)) (ap length (b .splits))
@@ -453,7 +480,7 @@ breaksIn n h o =
     if h .block then receiving n h else if h .alphas then receiving n h else if isOver o then Goes Asking (single cs3) else receiving n h
 
 over-unaccepted-is-caught : CarriesBy (stepBy (rowsWith sending opening breaksIn asking)) → ⊥
-unfolding through stepping sound done firstNot isBlock mayHold trafficOf meaningOf heardOf firstOf isWords listened trafficIn
+unfolding through stepping sound owedExists passes codeSignals holdsNeither done firstNot isBlock mayHold trafficOf meaningOf heardOf firstOf isWords listened trafficIn
 over-unaccepted-is-caught claim =
     let b = claim (clear (text 1 2 3) ∷ struck Offer.Over ∷ clear none ∷ []) refl .1 .confirmed-is-printed in
     not-none (length (b .rest)) (ap length (b .splits))
@@ -466,7 +493,7 @@ takesOne r Rq = opening r Rq
 takesOne r (Else x) = opening r (Else x)
 
 always-one-is-caught : CarriesBy (stepBy (rowsWith sending takesOne receives asking)) → ⊥
-unfolding through stepping sound done firstNot isBlock mayHold trafficOf meaningOf heardOf firstOf isWords listened trafficIn
+unfolding through stepping sound owedExists passes codeSignals holdsNeither done firstNot isBlock mayHold trafficOf meaningOf heardOf firstOf isWords listened trafficIn
 always-one-is-caught claim =
     let b = claim (clear Offer.Over ∷ clear none ∷ clear none ∷ clear none ∷ clear none ∷ clear (text 4 5 6) ∷ clear none ∷ clear none ∷ clear none ∷ []) refl .0 .accepts-a-beginning in
     not-one (length (b .rest)) (ap length (b .splits))

@@ -3,7 +3,7 @@
 --     goes         a row that takes nothing, prints nothing and confirms nothing
 --     again        the row repeats: the link is the one with the stations exchanged, also where this repetition is the 32nd
 --     or-rests     the same in identification, where the 32nd leads to Stand-by
---     taken        the offer is taken; with a confirmation, or without
+--     taken        the offer is taken, or the next block of an answer that is owed; with a confirmation, or without
 --     accepted     the block is accepted and printed
 --     not-accepted, ended, standing, not-called    the rows of Receiving, Ending and Stand-by, whatever the other is at
 -- Assumes nothing.
@@ -23,6 +23,9 @@ use Rattle.identity.specs.Sums.{isCallable7}
 use Rattle.mode_a.specs.declared.Number.{Number}
 use Rattle.mode_a.specs.declared.Number.the-variants.{One, Two}
 use Rattle.mode_a.specs.declared.Own.{Own}
+use Rattle.mode_a.specs.declared.Code.{Code}
+use Rattle.mode_a.specs.declared.Owed.{Owed as Answerback}
+use Rattle.mode_a.specs.declared.Owed.the-variants.{Nothing, Back, Keep}
 use Rattle.mode_a.specs.declared.Words.{Words}
 use Rattle.mode_a.specs.declared.Ended.{Ended}
 use Rattle.mode_a.specs.declared.Mark.{Mark}
@@ -40,13 +43,16 @@ use Rattle.mode_a.specs.declared.Reply.{Reply}
 use Rattle.mode_a.specs.Calls.{isCallable, callBlock1, callBlock2, call3Block1, call3Block2, call3Block3, nextBlock}
 use Rattle.mode_a.specs.Station.{words, listOf, single, silence, βαβ, ααα, RQ×3, same, asksFor, resting}
 use Rattle.mode_a.specs.Heard.{First, Cs, Cs3, Rq, Else, Other, furtherOf, firstOf, mayHold, isBlock, isWords, callOf, call3Of, heardOf}
+use Rattle.mode_a.specs.Answerback.{passes, blockOwed}
 use Rattle.mode_a.specs.Rows.{ending, endsAgain, receiving, bothHeard, allHeard, heardThen, standBy}
-use Rattle.mode_a.specs.Step.{standsAt, rested, sends, takes, repeats, acceptsBy, trafficIn, unidentified, done}
+use Rattle.mode_a.specs.Step.{standsAt, rested, sends, takesOffer, takesOwed, takes, repeats, acceptsHeard, trafficIn, unidentified, done}
 use Rattle.runs.specs.Places.{isReceiving}
 use Rattle.runs.specs.Runs.{InOrder, taking}
+use Rattle.runs.specs.Taken.{blockOf, blockFrom}
 use Rattle.runs.proofs.LetterLaws.{letters-of}
+use Rattle.runs.proofs.CodeLaws.{isOwed, owed-block}
 use Rattle.runs.proofs.RowLaws.{by-standing}
-use Rattle.runs.proofs.StepLaws.{placed, oneMore, by-repeat, by-again, by-accept, by-listen}
+use Rattle.runs.proofs.StepLaws.{placed, oneMore, by-repeat, by-owed, by-again, by-accept, by-listen}
 use Rattle.circuit.specs.Circuit.{traffic, confirmedOf, withoutZeros}
 use Rattle.circuit.proofs.DamageLaws.{all-three, Mangled, Signals, FirstIs, first-heard, four-letters, whole-call, whole-call3}
 use Rattle.circuit.proofs.Link.{Owed, none, unheard, heard, held, noCall, Link, s1-block, s1-other, s2-cs3, e1-alphas, aloud, no-more, Moved, stays, takes-block, confirms, confirms-and-takes, nothing-new, came, After}
@@ -120,21 +126,21 @@ printed-is b e =
     go (signal p q z) (signal p′ q′ z′) (signal p″ q″ z″) = rw (p, q, p′, q′, p″, q″, z, z′, z″)
 
 -- a row that takes nothing, prints nothing and confirms nothing
-pub goes : {o : Offer} (s : Station) (v : Words) {x p : Place} {ox op : Owed} → s .place ≡ x → Link p x v op ox → After false o ox op p (sends s v) [] []
-goes s v {x} {p} {ox} {op} e l =
-    record { place = x; word = v; ox′ = ox; op′ = op; link = l; says = aloud e refl; sends = stays; hears = nothing-new }
+pub goes : {l : List Words} (s : Station) (v : Words) {x p : Place} {ox op : Owed} → s .place ≡ x → Link p x v op ox → After false l ox op p (sends s v) [] []
+goes s v {x} {p} {ox} {op} e k =
+    record { place = x; word = v; ox′ = ox; op′ = op; link = k; says = aloud e refl; sends = stays; hears = nothing-new }
 
 -- the same again, or Lost
-pub again : {o : Offer} (s : Station) (v : Words) {x p : Place} {ox op : Owed} → s .place ≡ x → Link p x v op ox → After false o ox op p (repeats s v) [] []
-again {o} s v {x} {p} {ox} {op} e l =
-    by-repeat (λ (r : Reply). After false o ox op p r [] []) s v (λ t. record { place = x; word = v; ox′ = ox; op′ = op; link = l; says = no-more refl refl; sends = stays; hears = nothing-new }) (λ t. goes (oneMore s) v e l)
+pub again : {l : List Words} (s : Station) (v : Words) {x p : Place} {ox op : Owed} → s .place ≡ x → Link p x v op ox → After false l ox op p (repeats s v) [] []
+again {l} s v {x} {p} {ox} {op} e k =
+    by-repeat (λ (r : Reply). After false l ox op p r [] []) s v (λ t. record { place = x; word = v; ox′ = ox; op′ = op; link = k; says = no-more refl refl; sends = stays; hears = nothing-new }) (λ t. goes (oneMore s) v e k)
 
 -- the same again in identification, standing so, or Stand-by
-pub or-rests : {o : Offer} (s : Station) (b : Words) (x : Place) (v : Words) {p : Place} → Link p x v none none →
-    ((n : ℕ) → Link p (resting n) silence none none) → After false o none none p (done s b o (Again x v)) [] []
+pub or-rests : {l : List Words} (s : Station) (b : Words) (o : Offer) (x : Place) (v : Words) {p : Place} → Link p x v none none →
+    ((n : ℕ) → Link p (resting n) silence none none) → After false l none none p (done s b o (Again x v)) [] []
 unfolding done
-or-rests {o} s b x v {p} l q =
-    by-again (λ (r : Reply). After false o none none p r [] []) s x v (λ t. goes (rested s 0) silence refl (q _)) (λ t. goes (standsAt s x (s .count + 1) (s .case) (s .plus)) v refl l)
+or-rests {l} s b o x v {p} k q =
+    by-again (λ (r : Reply). After false l none none p r [] []) s x v (λ t. goes (rested s 0) silence refl (q _)) (λ t. goes (standsAt s x (s .count + 1) (s .case) (s .plus)) v refl k)
 
 -- an offer taken: where nothing was owed, or with the confirmation of the block before
 pub data Ready : Owed → List Words → Type 0 where
@@ -149,21 +155,39 @@ ends-now : {o : Owed} {l : List Words} → Ready o l → Moved o none [] l
 ends-now owed-nothing = stays
 ends-now confirmed-now = confirms
 
-pub taken : (s : Station) (n : Number) (own : Own) (o : Offer) {ox : Owed} {l : List Words} → InOrder own o → Ready ox l →
-    After true o ox none (Receiving n) (takes s n o) l []
+offer-taken : (s : Station) (n : Number) (own : Own) (o : Offer) {ox : Owed} {l : List Words} → InOrder own o → Ready ox l →
+    After true (blockOf o) ox none (Receiving n) (takesOffer s n o) l []
 unfolding isBlock mayHold trafficOf meaningOf
-taken s n own (Offer.Text a) i y = record { place = _; word = _; ox′ = _; op′ = _; link = s1-block i; says = aloud refl refl; sends = takes-now a y; hears = nothing-new }
-taken s n own Offer.Over i y = record { place = _; word = _; ox′ = _; op′ = _; link = s1-block refl; says = aloud refl refl; sends = takes-now _ y; hears = nothing-new }
-taken s n own Offer.End i y = record { place = _; word = _; ox′ = _; op′ = _; link = e1-alphas; says = aloud refl refl; sends = ends-now y; hears = nothing-new }
-taken s n own Offer.Nothing i y = record { place = _; word = _; ox′ = _; op′ = _; link = s1-block refl; says = aloud refl refl; sends = takes-now _ y; hears = nothing-new }
-taken s n own (Offer.Call x) i y = record { place = _; word = _; ox′ = _; op′ = _; link = s1-block refl; says = aloud refl refl; sends = takes-now _ y; hears = nothing-new }
-taken s n own (Offer.Call3 x) i y = record { place = _; word = _; ox′ = _; op′ = _; link = s1-block refl; says = aloud refl refl; sends = takes-now _ y; hears = nothing-new }
+offer-taken s n own (Offer.Text a) i y = record { place = _; word = _; ox′ = _; op′ = _; link = s1-block i; says = aloud refl refl; sends = takes-now a y; hears = nothing-new }
+offer-taken s n own Offer.Over i y = record { place = _; word = _; ox′ = _; op′ = _; link = s1-block refl; says = aloud refl refl; sends = takes-now _ y; hears = nothing-new }
+offer-taken s n own Offer.End i y = record { place = _; word = _; ox′ = _; op′ = _; link = e1-alphas; says = aloud refl refl; sends = ends-now y; hears = nothing-new }
+offer-taken s n own Offer.Nothing i y = record { place = _; word = _; ox′ = _; op′ = _; link = s1-block refl; says = aloud refl refl; sends = takes-now _ y; hears = nothing-new }
+offer-taken s n own (Offer.Call x) i y = record { place = _; word = _; ox′ = _; op′ = _; link = s1-block refl; says = aloud refl refl; sends = takes-now _ y; hears = nothing-new }
+offer-taken s n own (Offer.Call3 x) i y = record { place = _; word = _; ox′ = _; op′ = _; link = s1-block refl; says = aloud refl refl; sends = takes-now _ y; hears = nothing-new }
 
--- a block accepted
-pub accepted : {o : Offer} (s : Station) (n : Number) (b : Words) (t : Bool) (l : Listening) → isBlock b ≡ true →
-    After false o none (unheard b) (Sending (held n b)) (acceptsBy s n b t l) [] (b ∷ [])
-accepted {o} s n b t l i =
-    by-accept (λ (r : Reply). After false o none (unheard b) (Sending (held n b)) r [] (b ∷ [])) s n b t l (λ u. record { place = _; word = _; ox′ = _; op′ = _; link = s2-cs3; says = aloud refl refl; sends = stays; hears = rw (printed-is b i) came }) (record { place = _; word = _; ox′ = _; op′ = _; link = s1-other; says = aloud refl refl; sends = stays; hears = rw (printed-is b i) came })
+-- what a station takes where its row takes: the block of its offer, or the next block of an answer that is owed (02, T-06)
+abbrev pub toTake : Station → Offer → List Words
+toTake s o = blockFrom (s .own .code) (s .owed) o
+
+takes-owed : (k : Code) (w : Answerback) (o : Offer) → isOwed w ≡ true → blockFrom k w o ≡ blockOwed k w ∷ []
+takes-owed k Nothing o e = absurd (true≢false (sym e))
+takes-owed k (Back i) o e = refl
+takes-owed k (Keep i) o e = refl
+
+-- as a step is answered only where the code passes and the offer is in order, either is a block
+abbrev pub Fine : Station → Offer → Type 0
+Fine s o = (passes (s .own .code) ≡ true) × InOrder (s .own) o
+
+pub taken : (s : Station) (n : Number) (o : Offer) {ox : Owed} {l : List Words} → Fine s o → Ready ox l →
+    After true (toTake s o) ox none (Receiving n) (takes s n o) l []
+taken s n o {ox} {l} (k, i) y =
+    by-owed (λ (r : Reply). After true (toTake s o) ox none (Receiving n) r l []) s n o (λ e. subst (λ (w : Answerback). After true (blockFrom (s .own .code) w o) ox none (Receiving n) (takesOffer s n o) l []) (sym e) (offer-taken s n (s .own) o i y)) (λ e. subst (λ (m : List Words). After true m ox none (Receiving n) (takesOwed s n (s .owed)) l []) (sym (takes-owed (s .own .code) (s .owed) o e)) (record { place = _; word = _; ox′ = _; op′ = _; link = s1-block (owed-block (s .own .code) (s .owed) k); says = aloud refl refl; sends = takes-now _ y; hears = nothing-new }))
+
+-- a block accepted; D in figures in it is one more cause of CS3 (02, T-06)
+pub accepted : {m : List Words} (s : Station) (n : Number) (b : Words) (o : Offer) (l : Listening) → isBlock b ≡ true →
+    After false m none (unheard b) (Sending (held n b)) (acceptsHeard s n b o l) [] (b ∷ [])
+accepted {m} s n b o l i =
+    by-accept (λ (r : Reply). After false m none (unheard b) (Sending (held n b)) r [] (b ∷ [])) s n b o l (λ w u. record { place = _; word = _; ox′ = _; op′ = _; link = s2-cs3; says = aloud refl refl; sends = stays; hears = rw (printed-is b i) came }) (record { place = _; word = _; ox′ = _; op′ = _; link = s1-other; says = aloud refl refl; sends = stays; hears = rw (printed-is b i) came })
 
 -- No call is heard in a burst that no call block ends like.
 pub silence-no-call : noCall silence ≡ true
@@ -245,7 +269,7 @@ pub first-of : {w b : Words} (f : First) → Mangled w b → firstOf (w .0) ≡ 
 first-of {w} {b} f m e = subst (λ (f : First). FirstIs f (firstOf (b .0))) e (first-heard (w .0) (b .0) (m .word0))
 
 abbrev pub Row : Station → Words → Offer → Place → Place → Owed → Owed → Doing → First → Bool → Type 0
-Row s b o x p ox op d f t = After (taking x f) o ox op p (done (placed s x) b o d) (confirmedOf x f) (if isReceiving x && t then b ∷ [] else [])
+Row s b o x p ox op d f t = After (taking x f) (toTake s o) ox op p (done (placed s x) b o d) (confirmedOf x f) (if isReceiving x && t then b ∷ [] else [])
 
 -- at Stand-by no call is placed
 abbrev pub Quiet : Reply → Type 0
@@ -289,7 +313,7 @@ module _ (s : Station) (b : Words) (o : Offer) where
       Row s b o (StandBy x) p none none (standBy x (heardOf (s .own) b .call) (heardOf (s .own) b .call3)) (firstOf (b .0)) (isBlock b)
   unfolding done heardOf
   standing x {p} two three on =
-      by-standing (λ (d : Doing). Quiet (done (placed s (StandBy x)) b o d) → After false o none none p (done (placed s (StandBy x)) b o d) [] []) x (callOf (s .own .four) b) (call3Of (s .own .seven) b) (λ t q. goes _ _ refl (two t)) (λ t u q. goes _ _ refl (three u)) (λ t u. by-listen (λ (r : Reply). Quiet r → After false o none none p r [] []) (placed s (StandBy x)) _ o (λ i e z q. absurd (true≢false q)) (λ i e z q. absurd (true≢false q)) (λ q. goes _ _ refl (on _)))
+      by-standing (λ (d : Doing). Quiet (done (placed s (StandBy x)) b o d) → After false (toTake s o) none none p (done (placed s (StandBy x)) b o d) [] []) x (callOf (s .own .four) b) (call3Of (s .own .seven) b) (λ t q. goes _ _ refl (two t)) (λ t u q. goes _ _ refl (three u)) (λ t u. by-listen (λ (r : Reply). Quiet r → After false (toTake s o) none none p r [] []) (placed s (StandBy x)) _ o (λ i e z q. absurd (true≢false q)) (λ i e z q. absurd (true≢false q)) (λ q. goes _ _ refl (on _)))
 
   pub not-called : (x : Waiting) (w : Words) {p : Place} → noCall w ≡ true → Mangled w b → ((z : Waiting) → Link p (StandBy z) silence none none) →
       Quiet (done (placed s (StandBy x)) b o (standBy x (heardOf (s .own) b .call) (heardOf (s .own) b .call3))) →

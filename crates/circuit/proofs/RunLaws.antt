@@ -17,6 +17,7 @@ use Rattle.signals.specs.Numbers.{Answer, answered, refused}
 use Rattle.identity.specs.declared.Seven.{Seven}
 use Rattle.mode_a.specs.declared.Words.{Words}
 use Rattle.mode_a.specs.declared.Held.{Held}
+use Rattle.mode_a.specs.declared.Code.{Code}
 use Rattle.mode_a.specs.declared.Place.{Place}
 use Rattle.mode_a.specs.declared.Identity.{Identity}
 use Rattle.mode_a.specs.declared.Number.the-variants.{Two}
@@ -35,12 +36,12 @@ use Rattle.runs.specs.Runs.{start, _▷_, isCall, taking, isTaken}
 use Rattle.runs.proofs.PlaceLaws.{places-apart, is-standby}
 use Rattle.runs.proofs.LetterLaws.{letteredAt, Lettered, lettered-step}
 use Rattle.runs.proofs.StepLaws.{Answers, answers, by-listen, standby-answers, standby-answers3, standby-listens}
-use Rattle.circuit.specs.Circuit.{Event, heard, Harmless, Run, traffic, signalsIn, Direction, nothingYet, Circuit, fresh, said, placesCall, NoCallPlaced, confirmedBy, acceptedBy, answeredBy, goesOn, next, after, AllHarmless}
+use Rattle.circuit.specs.Circuit.{Event, heard, Harmless, Run, traffic, signalsIn, Direction, nothingYet, Circuit, freshWith, said, placesCall, NoCallPlaced, confirmedBy, acceptedBy, answeredBy, goesOn, next, after, AllHarmless}
 use Rattle.circuit.specs.Starts.{CallPlaced, CallCompleted, Begins, with-block, with-end, Call3Placed, CallTurned, Starts, both-fresh, placed, completed, placed3, turned}
 use Rattle.circuit.specs.Demand.{Carried, inHand, Kept}
 use Rattle.circuit.proofs.DamageLaws.{Mangled, mangled, mangled-silence, FirstIs, first-heard}
 use Rattle.circuit.proofs.Link.{Owed, none, unheard, heard as accepted, Link, s1-block, s1-rqs, s1-own, s1-rqs′, s1-other, s2-rqs, s2-cs3, s3-any, s3-cs3, s4-rq, s4-rqs, s5-asks, s5-rq, e1-alphas, e1-any, e2-any, e2-any′, e3-silence, e3-any, e4-any, c1-any, i1-call, calls, Told, waiting, ahead, At, here, gone, Says, aloud, no-more, Linked, Moved, stays, takes-block, confirms, confirms-and-takes, Came, nothing-new, came, After}
-use Rattle.circuit.proofs.ReplyLaws.{asks-first}
+use Rattle.circuit.proofs.ReplyLaws.{asks-first, toTake}
 use Rattle.circuit.proofs.CallStepLaws.{call-places}
 use Rattle.circuit.proofs.StepLaws.{idle, acts-at}
 
@@ -103,7 +104,7 @@ still-at s (aloud q i) = here q
 still-at s (no-more q i) = gone q
 
 linked-again : (c : Circuit) (o : Offer) (b : Words) (r : Reply) (l : Linked c) →
-    After (taking (c .hearer .place) (firstOf (b .0))) o (l .owed-hearer) (l .owed-sender) (l .sender-at) r (confirmedBy (c .hearer) b) (acceptedBy (c .hearer) b) →
+    After (taking (c .hearer .place) (firstOf (b .0))) (toTake (c .hearer) o) (l .owed-hearer) (l .owed-sender) (l .sender-at) r (confirmedBy (c .hearer) b) (acceptedBy (c .hearer) b) →
     Lettered (r .station) → Linked (answeredBy c o b r)
 linked-again c o b r l a k =
     record {
@@ -164,13 +165,13 @@ linked-next c e h n l = go (said c e) refl
     go : (a : Answer Reply) → said c e ≡ a → Linked (goesOn c e a)
     go (answered r) i =
         let y = answers (c .hearer) (heard e (c .burst)) (e .offer) r i in
-        linked-again c (e .offer) (heard e (c .burst)) r l (rw (y .is-done) (acts-at (c .hearer) (heard e (c .burst)) (e .offer) (l .hears) (l .link) (l .hearer-lettered) (heard-mangled c e h (l .says)) (y .is-fine) (λ s. ap (λ (r : Reply). r .taken) (sym (y .is-done)) ∙ quiet c e r i n s))) (lettered-step (c .hearer) (heard e (c .burst)) (e .offer) r i (l .hearer-lettered))
+        linked-again c (e .offer) (heard e (c .burst)) r l (rw (y .is-done) (acts-at (c .hearer) (heard e (c .burst)) (e .offer) (l .hears) (l .link) (l .hearer-lettered) (heard-mangled c e h (l .says)) (y .is-passed, y .is-fine) (λ s. ap (λ (r : Reply). r .taken) (sym (y .is-done)) ∙ quiet c e r i n s))) (lettered-step (c .hearer) (heard e (c .burst)) (e .offer) r i (l .hearer-lettered))
     go (refused n v) i = l
 
 -- every run
-linked-fresh : Linked fresh
+linked-fresh : (k j : Code) → Linked (freshWith k j)
 unfolding signalsIn
-linked-fresh =
+linked-fresh k j =
     record {
       hearer-at = _;
       sender-at = _;
@@ -287,7 +288,7 @@ linked-turned c y =
     }
 
 linked-start : (c : Circuit) → Starts c → Linked c
-linked-start c both-fresh = linked-fresh
+linked-start c (both-fresh k j) = linked-fresh k j
 linked-start c (placed {i = i} y) = linked-placed i c y
 linked-start c (completed y) = linked-completed c y
 linked-start c (placed3 {i = i} y) = linked-placed3 i c y

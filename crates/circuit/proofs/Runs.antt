@@ -15,14 +15,15 @@ use Rattle.signals.specs.Numbers.{firstNot}
 use Rattle.mode_a.specs.declared.Words.{Words}
 use Rattle.mode_a.specs.declared.Place.the-variants.{Lost}
 use Rattle.mode_a.specs.declared.Offer.{Offer}
-use Rattle.mode_a.specs.Station.{words, resting}
+use Rattle.mode_a.specs.Station.{words, noCode, resting}
 use Rattle.mode_a.specs.Heard.{firstOf, mayHold, isBlock, isWords, heardOf}
 use Rattle.mode_a.specs.Over.{query, cross, listened}
+use Rattle.mode_a.specs.Answerback.{codeSignals, holdsNeither, passes, owedExists}
 use Rattle.mode_a.specs.Step.{trafficIn, done, sound, stepping}
 use Rattle.signals.specs.Damage.{Damage, kept, hurt, NoSignal}
 use Rattle.runs.specs.Runs.{start, _▷_, isCall}
 use Rattle.circuit.specs.Circuit.{Event, Harmless, Run, traffic, signalsIn, Direction, Circuit, fresh, after, AllHarmless, NoCallPlaced}
-use Rattle.circuit.specs.Starts.{both-fresh}
+use Rattle.circuit.specs.Starts.{both-fresh, CodesPass}
 use Rattle.circuit.specs.Demand.{Demand3}
 use Rattle.circuit.proofs.DamageLaws.{all-three}
 use Rattle.circuit.proofs.RunLaws.{no-call-offered}
@@ -86,6 +87,11 @@ pub ordinary : (c : Circuit) (es : List Event) → isOrdinary es ≡ true → Or
 unfolding AllHarmless NoCallPlaced
 ordinary c es i = ordinary-if c start es (record { harmless = tt; no-call = tt }) i
 
+-- the empty codes pass
+pub codes-pass : CodesPass fresh
+unfolding passes codeSignals holdsNeither firstNot
+codes-pass = record { hearer-passes = refl; sender-passes = refl }
+
 -- what a direction has carried, all of it printed and confirmed
 pub record CarriedAll (d : Direction) (blocks : List Words) (signals : List ℕ) : Type 0 where
   pub taken : d .taken ≡ blocks
@@ -140,20 +146,20 @@ abbrev pub signals′ : List ℕ
 signals′ = wordNo 4 ∷ wordNo 5 ∷ wordNo 6 ∷ wordNo 10 ∷ wordNo 11 ∷ wordNo 12 ∷ []
 
 pub through-three-turns : CarriedAll (after fresh to-the-end .from-hearer) blocks signals
-unfolding after through stepping sound done firstNot isBlock mayHold trafficOf meaningOf heardOf firstOf isWords listened trafficIn traffic signalsIn
+unfolding after through stepping sound owedExists passes codeSignals holdsNeither done firstNot isBlock mayHold trafficOf meaningOf heardOf firstOf isWords listened trafficIn traffic signalsIn
 through-three-turns =
     subst (λ (c : Circuit). CarriedAll (c .from-hearer) blocks signals) (sym (computed fresh start all-events)) (record { taken = refl; accepted = refl; printed = refl; is-the-traffic = refl; confirmed = refl })
 
 pub and-back : CarriedAll (after fresh to-the-end .from-sender) blocks′ signals′
-unfolding after through stepping sound done firstNot isBlock mayHold trafficOf meaningOf heardOf firstOf isWords listened trafficIn traffic signalsIn
+unfolding after through stepping sound owedExists passes codeSignals holdsNeither done firstNot isBlock mayHold trafficOf meaningOf heardOf firstOf isWords listened trafficIn traffic signalsIn
 and-back =
     subst (λ (c : Circuit). CarriedAll (c .from-sender) blocks′ signals′) (sym (computed fresh start all-events)) (record { taken = refl; accepted = refl; printed = refl; is-the-traffic = refl; confirmed = refl })
 
 pub of-that-run : Demand3 (after fresh to-the-end)
-of-that-run = demand3 fresh both-fresh to-the-end (is-ordinary .harmless) (is-ordinary .no-call)
+of-that-run = demand3 fresh (both-fresh noCode noCode) codes-pass to-the-end (is-ordinary .harmless) (is-ordinary .no-call)
 
 pub ended : (after fresh to-the-end .hearer .place ≡ resting 0) × (after fresh to-the-end .sender .place ≡ resting 0)
-unfolding after through stepping sound done firstNot isBlock mayHold trafficOf meaningOf heardOf firstOf isWords listened trafficIn
+unfolding after through stepping sound owedExists passes codeSignals holdsNeither done firstNot isBlock mayHold trafficOf meaningOf heardOf firstOf isWords listened trafficIn
 ended = subst (λ (c : Circuit). (c .hearer .place ≡ resting 0) × (c .sender .place ≡ resting 0)) (sym (computed fresh start all-events)) (refl, refl)
 
 -- ABC is printed, and its answer is damaged 32 times: the master is Lost, and counts nothing as confirmed.
@@ -172,7 +178,7 @@ unfolding meaningOf
 fades-ordinary = ordinary fresh fade refl
 
 pub printed-and-lost : (after fresh timed-out .sender .place ≡ Lost) × (after fresh timed-out .from-sender .printed ≡ wordNo 1 ∷ wordNo 2 ∷ wordNo 3 ∷ []) × (after fresh timed-out .from-sender .confirmed ≡ [])
-unfolding after through stepping sound done firstNot isBlock mayHold trafficOf meaningOf heardOf firstOf isWords listened trafficIn
+unfolding after through stepping sound owedExists passes codeSignals holdsNeither done firstNot isBlock mayHold trafficOf meaningOf heardOf firstOf isWords listened trafficIn
 printed-and-lost =
     subst (λ (c : Circuit). (c .sender .place ≡ Lost) × (c .from-sender .printed ≡ wordNo 1 ∷ wordNo 2 ∷ wordNo 3 ∷ []) × (c .from-sender .confirmed ≡ [])) (sym (computed fresh start fade)) (refl, refl, refl)
 
@@ -186,7 +192,7 @@ answered-at-last = hold ++ clear none ∷ clear (text 4 5 6) ∷ []
 
 pub confirmed-at-31 : let c = after fresh (run-of start hold) in let d = after fresh (run-of start answered-at-last) in let g = after fresh (run-of start (answered-at-last ++ clear none ∷ [])) in
     (c .sender .count ≡ 31) × (d .hearer .count ≡ 31) × (d .from-sender .confirmed ≡ signals3 1 2 3 ∷ []) × (g .from-hearer .accepted ≡ signals3 1 2 3 ∷ signals3 4 5 6 ∷ [])
-unfolding after through stepping sound done firstNot isBlock mayHold trafficOf meaningOf heardOf firstOf isWords listened trafficIn
+unfolding after through stepping sound owedExists passes codeSignals holdsNeither done firstNot isBlock mayHold trafficOf meaningOf heardOf firstOf isWords listened trafficIn
 confirmed-at-31 = (
   subst (λ (c : Circuit). c .sender .count ≡ 31) (sym (computed fresh start hold)) refl,
   subst (λ (c : Circuit). c .hearer .count ≡ 31) (sym (computed fresh start answered-at-last)) refl,

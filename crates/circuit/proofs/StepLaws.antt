@@ -25,15 +25,15 @@ use Rattle.mode_a.specs.Station.{single, silence, βαβ, ααα, RQ×3, other,
 use Rattle.mode_a.specs.Heard.{First, Cs, Cs3, Rq, firstOf, mayHold, isBlock, isWords, heardOf}
 use Rattle.mode_a.specs.Over.{listenedAll}
 use Rattle.mode_a.specs.Rows.{sending, turnCompleted, turningElse, opening, requests, rowOf}
-use Rattle.mode_a.specs.Step.{isOver, acceptsBy, done}
+use Rattle.mode_a.specs.Step.{acceptsHeard, done}
 use Rattle.runs.specs.Places.{isStandBy}
-use Rattle.runs.specs.Runs.{InOrder, taking}
+use Rattle.runs.specs.Runs.{taking}
 use Rattle.runs.proofs.LetterLaws.{letteredAt, Lettered}
 use Rattle.runs.proofs.StepLaws.{placed, requests-no-ααα, block-no-ααα}
 use Rattle.circuit.specs.Circuit.{confirmedBy, acceptedBy}
 use Rattle.circuit.proofs.DamageLaws.{Mangled, whole-block, no-block, no-words, FirstIs, said, unsaid}
 use Rattle.circuit.proofs.Link.{Owed, none, unheard, heard, held, Link, s1-block, s1-rqs, s1-own, s1-rqs′, s1-other, s2-rqs, s2-cs3, s3-any, s3-cs3, s4-rq, s4-rqs, s5-asks, s5-rq, e1-alphas, e1-any, e2-any, e2-any′, e3-silence, e3-any, e4-any, calls, At, here, gone, aloud, no-more, stays, confirms, nothing-new, After}
-use Rattle.circuit.proofs.ReplyLaws.{ααα-signals, βαβ-signals, RQ×3-signals, asks-first, goes, again, owed-nothing, confirmed-now, taken, accepted, silence-no-call, alphas-no-call, asks-no-call, first-of, Row, Quiet, not-accepted, ended, not-called}
+use Rattle.circuit.proofs.ReplyLaws.{ααα-signals, βαβ-signals, RQ×3-signals, asks-first, goes, again, owed-nothing, confirmed-now, toTake, Fine, taken, accepted, silence-no-call, alphas-no-call, asks-no-call, first-of, Row, Quiet, not-accepted, ended, not-called}
 use Rattle.circuit.proofs.CallStepLaws.{call-idle, call-acts}
 
 -- a station that is Lost leaves the link as it was
@@ -88,10 +88,10 @@ module _ (s : Station) (b : Words) (o : Offer) where
   own-heard n a f i said = rw (same-self n) (again (placed s (Sending (held n a))) a refl (s1-block i))
   own-heard n a f i unsaid = again (placed s (Sending (held n a))) RQ×3 refl (s1-rqs i)
 
-  other-heard : (n : Number) (a : Words) (f : First) → InOrder (s .own) o → FirstIs (Cs (other n)) f →
+  other-heard : (n : Number) (a : Words) (f : First) → Fine s o → FirstIs (Cs (other n)) f →
       Row s b o (Sending (held n a)) (Receiving (other n)) (heard a) none (sending (held n a) f) f (isBlock b)
   unfolding done
-  other-heard n a f i said = rw (same-other n) (taken (placed s (Sending (held n a))) (other n) (s .own) o i confirmed-now)
+  other-heard n a f i said = rw (same-other n) (taken (placed s (Sending (held n a))) (other n) o i confirmed-now)
   other-heard n a f i unsaid = again (placed s (Sending (held n a))) RQ×3 refl s1-rqs′
 
   -- S2, Sending: "CS3: confirmed; send βαβ, go to Turning"
@@ -135,9 +135,9 @@ module _ (s : Station) (b : Words) (o : Offer) where
   opened n f said = again (placed s Opening) (requests (s .role)) refl (s4-rq (s .role))
   opened n f unsaid = again (placed s Opening) (requests (s .role)) refl (s4-rq (s .role))
 
-  begun : (n : Number) (f : First) → InOrder (s .own) o → FirstIs (Cs n) f → Row s b o Opening (Receiving n) none none (opening (s .role) f) f (isBlock b)
+  begun : (n : Number) (f : First) → Fine s o → FirstIs (Cs n) f → Row s b o Opening (Receiving n) none none (opening (s .role) f) f (isBlock b)
   unfolding done
-  begun n f i said = taken (placed s Opening) n (s .own) o i owed-nothing
+  begun n f i said = taken (placed s Opening) n o i owed-nothing
   begun n f i unsaid = again (placed s Opening) (requests (s .role)) refl (s5-rq (s .role))
 
   -- S1, Receiving: "Three intact words, each traffic or β: accepted"
@@ -145,7 +145,7 @@ module _ (s : Station) (b : Words) (o : Offer) where
       Row s b o (Receiving n) (Sending (held n a)) none (unheard a) (if t then Accepts n else if isWords b ααα then Rests 0 (asksFor (other n)) else Repeats (asksFor n)) (firstOf (b .0)) t
   unfolding done
   block-heard n a i g true e =
-      subst (λ (a : Words). After false o none (unheard a) (Sending (held n a)) (acceptsBy (placed s (Receiving n)) n b (isOver o) (listenedAll (s .case) (s .plus) b)) [] (b ∷ [])) (whole-block a b g e) (accepted (placed s (Receiving n)) n b (isOver o) (listenedAll (s .case) (s .plus) b) e)
+      subst (λ (a : Words). After false (toTake s o) none (unheard a) (Sending (held n a)) (acceptsHeard (placed s (Receiving n)) n b o (listenedAll (s .case) (s .plus) b)) [] (b ∷ [])) (whole-block a b g e) (accepted (placed s (Receiving n)) n b o (listenedAll (s .case) (s .plus) b) e)
   block-heard n a i g false e =
       rw (no-words a b ααα g ααα-signals (block-no-ααα a i)) (again (placed s (Receiving n)) (asksFor n) refl (s1-own i))
 
@@ -157,7 +157,7 @@ module _ (s : Station) (b : Words) (o : Offer) where
   alphas-heard n e false = again (placed s (Receiving n)) (asksFor n) refl e1-any
 
   -- and of every link
-  pub acts : {x p : Place} {w : Words} {ox op : Owed} → Link x p w ox op → Mangled w b → InOrder (s .own) o → letteredAt (s .own) x →
+  pub acts : {x p : Place} {w : Words} {ox op : Owed} → Link x p w ox op → Mangled w b → Fine s o → letteredAt (s .own) x →
       (isStandBy x ≡ true → Quiet (done (placed s x) b o (rowOf (s .own) (s .role) x (heardOf (s .own) b)))) →
       Row s b o x p ox op (rowOf (s .own) (s .role) x (heardOf (s .own) b)) (firstOf (b .0)) (isBlock b)
   unfolding heardOf firstOf isBlock mayHold trafficOf meaningOf isWords done
@@ -191,8 +191,8 @@ module _ (s : Station) (b : Words) (o : Offer) where
 
 -- of every station that is linked
 pub acts-at : (s : Station) (b : Words) (o : Offer) {x p : Place} {w : Words} {ox op : Owed} → At s x → Link x p w ox op → Lettered s →
-    Mangled w b → InOrder (s .own) o → (isStandBy (s .place) ≡ true → done s b o (rowOf (s .own) (s .role) (s .place) (heardOf (s .own) b)) .taken ≡ false) →
-    After (taking (s .place) (firstOf (b .0))) o ox op p (done s b o (rowOf (s .own) (s .role) (s .place) (heardOf (s .own) b))) (confirmedBy s b) (acceptedBy s b)
+    Mangled w b → Fine s o → (isStandBy (s .place) ≡ true → done s b o (rowOf (s .own) (s .role) (s .place) (heardOf (s .own) b)) .taken ≡ false) →
+    After (taking (s .place) (firstOf (b .0))) (toTake s o) ox op p (done s b o (rowOf (s .own) (s .role) (s .place) (heardOf (s .own) b))) (confirmedBy s b) (acceptedBy s b)
 unfolding heardOf
 acts-at s b o {x} {p} {w} {ox} {op} (here e) l m g y z =
     acts s b o (subst (λ (q : Place). Link q p w ox op) (sym e) l) g y m z

@@ -1,4 +1,4 @@
--- Demand 3, of every run of a fresh master and a fresh slave, and of every run after a call. Assumes nothing.
+-- Demand 3, of every run of a fresh master and a fresh slave, and of every run after a call, of stations whose codes pass. Assumes nothing.
 use Rattle.circuit.specs.Circuit.{Circuit, after}
 use Rattle.circuit.specs.Demand.{Demand3, OfEveryRun}
 use Rattle.circuit.proofs.Link.{Linked}
@@ -23,4 +23,4 @@ of-linked c l s =
     }
 
 pub demand3 : OfEveryRun
-demand3 c y run a n = of-linked (after c run) (linked c y run a n) (sound-run c y run)
+demand3 c y k run a n = of-linked (after c run) (linked c y run a n) (sound-run c y k run)

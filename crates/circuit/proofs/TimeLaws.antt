@@ -3,7 +3,7 @@
 --     goes-on           what the sender then sends is a block, ααα or βαβ, and no repetition for the other; its own count is 0
 -- Assumes nothing.
 use mathlib.Core.Path.{_≡_, refl, ap, _∙_}
-use mathlib.Core.Bool.{Bool, false, not}
+use mathlib.Core.Bool.{false, not}
 use Rattle.signals.specs.Meaning.{meaningOf, trafficOf}
 use Rattle.mode_a.specs.declared.Number.{Number}
 use Rattle.mode_a.specs.declared.Words.{Words}
@@ -12,6 +12,7 @@ use Rattle.mode_a.specs.declared.Ended.{Ended}
 use Rattle.mode_a.specs.declared.Place.{Place}
 use Rattle.mode_a.specs.declared.Place.the-variants.{Turning, Receiving, Asking, Lost}
 use Rattle.mode_a.specs.declared.Offer.{Offer}
+use Rattle.mode_a.specs.declared.Owed.{Owed}
 use Rattle.mode_a.specs.declared.Station.{Station}
 use Rattle.mode_a.specs.declared.Doing.{Doing}
 use Rattle.mode_a.specs.declared.Listening.{Listening}
@@ -20,13 +21,13 @@ use Rattle.mode_a.specs.Station.{βαβ}
 use Rattle.mode_a.specs.Heard.{First, Heard, mayHold, isBlock, isWords, heardOf}
 use Rattle.mode_a.specs.Over.{listenedAll}
 use Rattle.mode_a.specs.Rows.{rowOf, sending, turning, ending, receiving}
-use Rattle.mode_a.specs.Step.{movedTo, sends, takes, isOver, acceptsBy, repeats, done}
+use Rattle.mode_a.specs.Step.{movedTo, sends, owing, takes, acceptsHeard, repeats, done}
 use Rattle.runs.specs.Places.{isLost}
-use Rattle.runs.specs.Runs.{InOrder}
 use Rattle.runs.proofs.PlaceLaws.{places-apart}
 use Rattle.runs.proofs.RowLaws.{by-sending, by-turning, by-ending}
-use Rattle.runs.proofs.StepLaws.{Answers, placed, by-take, by-accept}
+use Rattle.runs.proofs.StepLaws.{Answers, placed, by-take, by-take-block, by-accept}
 use Rattle.circuit.proofs.Link.{held}
+use Rattle.circuit.proofs.ReplyLaws.{Fine}
 
 -- a place other than Lost
 pub in-time : (p : Place) → isLost p ≡ false → p ≡ Lost → ⊥
@@ -35,11 +36,11 @@ in-time p i = places-apart p Lost (ap not i)
 NotLost : Reply → Type 0
 NotLost r = isLost (r .station .place) ≡ false
 
--- What the station s sends that has heard the confirmation from a station at x: the offer, under the number that x awaits, or βαβ to
+-- What the station s sends that has heard the confirmation from a station at x: what it takes, under the number that x awaits, or βαβ to
 -- one that asks for the turn.
 pub data Follows (s : Station) (x : Place) (r : Reply) : Type 0 where
-  took : {n : Number} (o : Offer) → InOrder (s .own) o → x ≡ Receiving n → r ≡ takes s n o → Follows s x r
-  turns : {n : Number} → x ≡ Asking → r ≡ sends (movedTo s (Turning n)) βαβ → Follows s x r
+  took : {n : Number} (o : Offer) → Fine s o → x ≡ Receiving n → r ≡ takes s n o → Follows s x r
+  turns : {n : Number} → x ≡ Asking → r ≡ sends (movedTo (owing s Owed.Nothing) (Turning n)) βαβ → Follows s x r
 
 -- to repeat at a count of 0 is to stay
 stays-at-0 : (s : Station) (v : Words) → s .count ≡ 0 → isLost (s .place) ≡ false → isLost (repeats s v .station .place) ≡ false
@@ -47,22 +48,18 @@ stays-at-0 s v z i = rw z i
 
 taken-in-time : (s : Station) (n : Number) (o : Offer) → NotLost (takes s n o)
 unfolding NotLost
-taken-in-time s n o = by-take NotLost s n o (λ w t. refl) refl
+taken-in-time s n o = by-take NotLost s n o (λ u w t. refl) refl
 
-accepted-in-time : (s : Station) (n : Number) (b : Words) (t : Bool) (l : Listening) → NotLost (acceptsBy s n b t l)
+accepted-in-time : (s : Station) (n : Number) (b : Words) (o : Offer) (l : Listening) → NotLost (acceptsHeard s n b o l)
 unfolding NotLost
-accepted-in-time s n b t l = by-accept NotLost s n b t l (λ u. refl) refl
+accepted-in-time s n b o l = by-accept NotLost s n b o l (λ w u. refl) refl
 
--- Receiving that hears the offer's block, or ααα
-hears-offer : (s y : Station) (n : Number) (o p : Offer) → InOrder (s .own) o →
+-- Receiving that hears the block taken, or ααα
+hears-taken : (s y : Station) (n : Number) (o p : Offer) → Fine s o →
     NotLost (done y (takes s n o .sent) p (receiving n (heardOf (y .own) (takes s n o .sent))))
 unfolding NotLost done heardOf isBlock mayHold trafficOf meaningOf isWords
-hears-offer s y n (Offer.Text w) p i = rw i (accepted-in-time y n w (isOver p) (listenedAll (y .case) (y .plus) w))
-hears-offer s y n Offer.Over p i = accepted-in-time y n _ (isOver p) (listenedAll (y .case) (y .plus) _)
-hears-offer s y n Offer.End p i = refl
-hears-offer s y n Offer.Nothing p i = accepted-in-time y n _ (isOver p) (listenedAll (y .case) (y .plus) _)
-hears-offer s y n (Offer.Call x) p i = accepted-in-time y n _ (isOver p) (listenedAll (y .case) (y .plus) _)
-hears-offer s y n (Offer.Call3 x) p i = accepted-in-time y n _ (isOver p) (listenedAll (y .case) (y .plus) _)
+hears-taken s y n o p (k, i) =
+    by-take-block (λ (r : Reply). NotLost (done y (r .sent) p (receiving n (heardOf (y .own) (r .sent))))) s n (s .own) o k i (λ u w t j. rw j (accepted-in-time y n w p (listenedAll (y .case) (y .plus) w))) refl
 
 -- the sender, at a count of 0
 module _ (y : Station) (b : Words) (p : Offer) (zero-count : y .count ≡ 0) (here : isLost (y .place) ≡ false) where
@@ -88,7 +85,7 @@ module _ (y : Station) (b : Words) (p : Offer) (zero-count : y .count ≡ 0) (he
 has-taken : (s : Station) (n : Number) (o : Offer) (b : Words) (p : Offer) → let y = takes s n o .station in
     NotLost (done y b p (rowOf (y .own) (y .role) (y .place) (heardOf (y .own) b)))
 has-taken s n o b p =
-    by-take (λ (r : Reply). let y = r .station in NotLost (done y b p (rowOf (y .own) (y .role) (y .place) (heardOf (y .own) b)))) s n o (λ w t. at-sending _ b p refl refl (held n w) (heardOf (s .own) b .first)) (at-ending _ b p refl refl (record { number = n; total = 1 }) (heardOf (s .own) b .first))
+    by-take (λ (r : Reply). let y = r .station in NotLost (done y b p (rowOf (y .own) (y .role) (y .place) (heardOf (y .own) b)))) s n o (λ u w t. at-sending _ b p refl refl (held n w) (heardOf (s .own) b .first)) (at-ending _ b p refl refl (record { number = n; total = 1 }) (heardOf (s .own) b .first))
 
 -- so neither is Lost then, nor in the exchange that follows
 module _ (s : Station) (x : Place) (r : Reply) where
@@ -102,10 +99,10 @@ module _ (s : Station) (x : Place) (r : Reply) where
       Answers (r .station) b o₄ r₄ → (r₃ .station .place ≡ Lost → ⊥) × (r₄ .station .place ≡ Lost → ⊥)
   unfolding NotLost done heardOf isWords
   goes-on y o₃ o₄ b r₃ r₄ (took {n = n} o i p e) q a₃ a₄ = (
-    in-time (r₃ .station .place) (rw (a₃ .is-done, q ∙ p, e) (hears-offer s (placed y (Receiving n)) n o o₃ i)),
+    in-time (r₃ .station .place) (rw (a₃ .is-done, q ∙ p, e) (hears-taken s (placed y (Receiving n)) n o o₃ i)),
     in-time (r₄ .station .place) (rw (a₄ .is-done, e) (has-taken s n o b o₄)),
   )
   goes-on y o₃ o₄ b r₃ r₄ (turns {n = n} p e) q a₃ a₄ = (
     in-time (r₃ .station .place) (rw (a₃ .is-done, q ∙ p, e)),
-    in-time (r₄ .station .place) (rw (a₄ .is-done, e) (at-turning (movedTo s (Turning n)) b o₄ refl refl n (heardOf (s .own) b))),
+    in-time (r₄ .station .place) (rw (a₄ .is-done, e) (at-turning (movedTo (owing s Owed.Nothing) (Turning n)) b o₄ refl refl n (heardOf (s .own) b))),
   )

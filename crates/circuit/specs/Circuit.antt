@@ -1,5 +1,5 @@
 -- 01, How the promises are judged: a fresh master and a fresh slave of mode A, no third sender: every run of the two.  R-094, R-172
--- And 02, T-02 and T-05: two stations of which one has called the other.
+-- And 02, T-02 and T-05: two stations of which one has called the other; T-06: each with an answer-back code.
 --
 -- "its first burst is CS1": of fresh stations the slave's CS1 is on the way when the run starts; after a call the master's burst
 -- is. Bursts alternate, and each is heard once: the station that hears answers, and the other hears that next. An event is what
@@ -14,21 +14,22 @@ use mathlib.Core.List.{List, [], _∷_, _++_}
 use Prim.Native.Nat.{ℕ}
 use lib.Dec.{eqb}
 use Rattle.laws.specs.Choice.{if_then_else_}
-use Rattle.signals.specs.Meaning.{trafficOf, figures, beta}
+use Rattle.signals.specs.Meaning.{trafficOf}
 use Rattle.signals.specs.Damage.{Damage, kept, arrives, NoSignal}
 use Rattle.signals.specs.Numbers.{Answer, answered, refused}
 use Rattle.mode_a.specs.declared.Words.{Words}
 use Rattle.mode_a.specs.declared.Held.{Held}
+use Rattle.mode_a.specs.declared.Code.{Code}
 use Rattle.mode_a.specs.declared.Place.{Place}
 use Rattle.mode_a.specs.declared.Offer.{Offer}
 use Rattle.mode_a.specs.declared.Station.{Station}
 use Rattle.mode_a.specs.declared.Reply.{Reply}
-use Rattle.mode_a.specs.Station.{words, listOf, freshMaster, freshSlave, firstBurst}
+use Rattle.mode_a.specs.Station.{words, listOf, noCode, freshMaster, freshSlave, firstBurst}
 use Rattle.mode_a.specs.Heard.{First, firstOf, heardOf}
-use Rattle.mode_a.specs.Over.{cross, query}
-use Rattle.mode_a.specs.Step.{stepping}
-use Rattle.runs.specs.Places.{isSending, isStandBy, atSending}
-use Rattle.runs.specs.Runs.{RunOf, start, _▷_, isTaken, confirming, accepting, taking}
+use Rattle.mode_a.specs.Step.{stepping, coded}
+use Rattle.runs.specs.Places.{isStandBy, atSending}
+use Rattle.runs.specs.Runs.{RunOf, start, _▷_, isTaken, confirming, accepting}
+use Rattle.runs.specs.Taken.{takenBy}
 
 pub record Event : Type 0 where
   pub first : Damage
@@ -70,23 +71,6 @@ pub record Direction : Type 0 where
 abbrev pub nothingYet : Direction
 nothingYet = record { taken = []; accepted = []; printed = []; confirmed = [] }
 
--- "take the offer .. Text gives that block, nothing gives βββ, over gives figures + ?": a block taken from an offer is the block of
--- an offer where a row takes and the station is at Sending after the step. An over taken at Receiving is no block, and end is none
--- that is held. A call that is offered there gives βββ (02, T-02) and is not reported as taken; its block counts all the same.
-abbrev pub blockOf : Offer → List Words
-blockOf (Offer.Text w) = w ∷ []
-blockOf Offer.Over = words figures cross query ∷ []
-blockOf Offer.End = []
-blockOf Offer.Nothing = words beta beta beta ∷ []
-blockOf (Offer.Call i) = words beta beta beta ∷ []
-blockOf (Offer.Call3 i) = words beta beta beta ∷ []
-
-abbrev pub takenIf : Bool → Offer → Reply → List Words
-takenIf t o r = if t && isSending (r .station .place) then blockOf o else []
-
-abbrev pub takenBy : Station → Words → Offer → Reply → List Words
-takenBy s b o r = takenIf (taking (s .place) (firstOf (b .0))) o r
-
 -- "Receiving .. Three intact words, each traffic or β: accepted"
 abbrev pub acceptedBy : Station → Words → List Words
 acceptedBy s b = if accepting (s .place) (heardOf (s .own) b) then b ∷ [] else []
@@ -118,10 +102,20 @@ pub record Circuit : Type 0 where
   pub from-hearer : Direction
   pub from-sender : Direction
 
--- "Take a fresh master and a fresh slave"; the slave's first burst is on the way
+-- "Take a fresh master and a fresh slave"; the slave's first burst is on the way. Each has its answer-back code (02, T-06), the empty one
+-- where none was given.
+abbrev pub freshWith : Code → Code → Circuit
+freshWith k j =
+    record {
+      hearer = coded freshMaster k;
+      sender = coded freshSlave j;
+      burst = firstBurst;
+      from-hearer = nothingYet;
+      from-sender = nothingYet;
+    }
+
 abbrev pub fresh : Circuit
-fresh =
-    record { hearer = freshMaster; sender = freshSlave; burst = firstBurst; from-hearer = nothingYet; from-sender = nothingYet }
+fresh = freshWith noCode noCode
 
 -- the answer to an event, and the circuit after it: the station that heard is now the one that has sent. A refused event is no
 -- step.

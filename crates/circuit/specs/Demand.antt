@@ -15,7 +15,7 @@ use Rattle.mode_a.specs.Heard.{Cs3, firstOf}
 use Rattle.runs.specs.Places.{atSending}
 use Rattle.runs.specs.Runs.{isAnswered, InOrder}
 use Rattle.circuit.specs.Circuit.{Event, heard, Harmless, Whole, Run, signalsIn, Direction, Circuit, said, next, after, AllHarmless, NoCallPlaced}
-use Rattle.circuit.specs.Starts.{Starts}
+use Rattle.circuit.specs.Starts.{Starts, CodesPass}
 
 -- one list is a beginning of another
 pub record Beginning (A : Type 0) (begun whole : List A) : Type 0 where
@@ -98,4 +98,5 @@ pub record Demand3 (c : Circuit) : Type 0 where
 
 -- of every run
 abbrev pub OfEveryRun : Type 0
-OfEveryRun = (c : Circuit) → Starts c → (run : Run) → AllHarmless run → NoCallPlaced c run → Demand3 (after c run)
+OfEveryRun =
+    (c : Circuit) → Starts c → CodesPass c → (run : Run) → AllHarmless run → NoCallPlaced c run → Demand3 (after c run)

@@ -1,6 +1,8 @@
 -- 01, How the promises are judged: "Take a fresh master and a fresh slave"; 02, T-02: "Demand 3 then also starts from what a completed call
 -- leaves, where the slave was at Stand-by before it and its repetition count may have begun."  R-194. And T-05: from what a completed
--- call of three blocks leaves, where the last burst that the slave heard before it was no call block of its own.  R-227
+-- call of three blocks leaves, where the last burst that the slave heard before it was no call block of its own.  R-227. T-06: "Demand 3
+-- takes stations whose code passes this", and nothing of an answer is owed at the start; of a station at Stand-by that is called this is not
+-- asked, since a call leaves nothing owed.  R-245
 -- Assumes nothing.
 use mathlib.Core.Path.{_≡_}
 use mathlib.Core.Bool.{true, false, _||_}
@@ -17,6 +19,8 @@ use Rattle.mode_a.specs.declared.Place.the-variants.{Sending, Turning, Ending, 
 use Rattle.mode_a.specs.declared.Mark.{Mark}
 use Rattle.mode_a.specs.declared.Succession.{Succession}
 use Rattle.mode_a.specs.declared.Waiting.{Waiting}
+use Rattle.mode_a.specs.declared.Code.{Code}
+use Rattle.mode_a.specs.declared.Owed.{Owed}
 use Rattle.identity.specs.declared.Seven.{Seven}
 use Rattle.identity.specs.Sums.{isCallable7}
 use Rattle.mode_a.specs.declared.Offer.{Offer}
@@ -24,9 +28,10 @@ use Rattle.mode_a.specs.declared.Station.{Station}
 use Rattle.mode_a.specs.declared.Reply.{Reply}
 use Rattle.mode_a.specs.Station.{ααα, βαβ}
 use Rattle.mode_a.specs.Heard.{isBlock}
+use Rattle.mode_a.specs.Answerback.{passes}
 use Rattle.mode_a.specs.Step.{sound, called, called3}
 use Rattle.runs.specs.Places.{isSending, isEnding, isStandBy, isCalling}
-use Rattle.circuit.specs.Circuit.{Event, Harmless, Run, nothingYet, Circuit, fresh, said, next, after, AllHarmless, NoCallPlaced}
+use Rattle.circuit.specs.Circuit.{Event, Harmless, Run, nothingYet, Circuit, freshWith, said, next, after, AllHarmless, NoCallPlaced}
 
 -- What the step that places a call leaves (`called`), whatever the station was and whatever the identity: the first call burst is on the
 -- way to a station at Stand-by, whatever that one's identity and whatever it has heard before. Nothing has been carried yet.
@@ -54,18 +59,20 @@ pub data Begins : Circuit → Type 0 where
       c .from-sender ≡ nothingYet → Begins c
 
 -- The master has just sent, with count 0, and the slave awaits block 1, with any count up to 31. Both are in letters case, with no +
--- heard.
+-- heard and nothing owed.
 pub record CallCompleted (c : Circuit) : Type 0 where
   pub sender-role : c .sender .role ≡ Master
   pub sender-count : c .sender .count ≡ 0
   pub sender-case : c .sender .case ≡ Letters
   pub sender-plus : c .sender .plus ≡ false
   pub begins : Begins c
+  pub sender-owed : c .sender .owed ≡ Owed.Nothing
   pub hearer-role : c .hearer .role ≡ Slave
   pub hearer-place : c .hearer .place ≡ Receiving One
   pub hearer-count : leb (c .hearer .count) 31 ≡ true
   pub hearer-case : c .hearer .case ≡ Letters
   pub hearer-plus : c .hearer .plus ≡ false
+  pub hearer-owed : c .hearer .owed ≡ Owed.Nothing
   pub none-from-hearer : c .from-hearer ≡ nothingYet
 
 -- The same of a call of three blocks (`called3`): both identities are of table 3a, else the step refuses the call. The last burst that the
@@ -93,22 +100,29 @@ pub record CallTurned (c : Circuit) : Type 0 where
   pub sender-count : c .sender .count ≡ 0
   pub sender-case : c .sender .case ≡ Letters
   pub sender-plus : c .sender .plus ≡ false
+  pub sender-owed : c .sender .owed ≡ Owed.Nothing
   pub burst-is : c .burst ≡ βαβ
   pub hearer-role : c .hearer .role ≡ Slave
   pub hearer-place : c .hearer .place ≡ Asking
   pub hearer-count : leb (c .hearer .count) 31 ≡ true
   pub hearer-case : c .hearer .case ≡ Letters
   pub hearer-plus : c .hearer .plus ≡ false
+  pub hearer-owed : c .hearer .owed ≡ Owed.Nothing
   pub none-from-hearer : c .from-hearer ≡ nothingYet
   pub none-from-sender : c .from-sender ≡ nothingYet
 
 -- what demand 3 starts from
 pub data Starts : Circuit → Type 0 where
-  both-fresh : Starts fresh
+  both-fresh : (k j : Code) → Starts (freshWith k j)
   placed : {c : Circuit} {i : Identity} → CallPlaced i c → Starts c
   completed : {c : Circuit} → CallCompleted c → Starts c
   placed3 : {c : Circuit} {i : Seven} → Call3Placed i c → Starts c
   turned : {c : Circuit} → CallTurned c → Starts c
+
+-- "Demand 3 takes stations whose code passes this" (02, T-06): no step of theirs is refused for the code, and none changes it  R-245
+pub record CodesPass (c : Circuit) : Type 0 where
+  pub hearer-passes : passes (c .hearer .own .code) ≡ true
+  pub sender-passes : passes (c .sender .own .code) ≡ true
 
 -- where, after any harmless damage, the caller leaves Calling for Sending or Ending the circuit is what a completed call leaves, and the
 -- master knows whom it called

@@ -29,10 +29,11 @@ use Rattle.identity.specs.declared.Seven.{Seven}
 use Rattle.identity.specs.Table3.{isIdentity}
 use Rattle.identity.specs.Sums.{isCallable7}
 use Rattle.mode_a.specs.Calls.{isCallable, callBlock1, callBlock2}
-use Rattle.mode_a.specs.Station.{single, silence, ααα, asksFor, freshMaster, freshSlave, freshAt, resting, noSeven}
+use Rattle.mode_a.specs.Station.{single, silence, ααα, asksFor, freshMaster, freshSlave, freshAt, resting, noCode, noSeven}
 use Rattle.mode_a.specs.Heard.{firstOf, furtherOf, mayHold, isBlock, isWords, callOf, call3Of, heardOf}
 use Rattle.mode_a.specs.Identification.{toldIn}
 use Rattle.mode_a.specs.Over.{listened}
+use Rattle.mode_a.specs.Answerback.{codeSignals, holdsNeither, passes, owedExists}
 use Rattle.mode_a.specs.Step.{sends, trafficIn, done, rested, sound, stepping}
 use Rattle.runs.specs.Places.{isStandBy, isLost}
 use Rattle.runs.specs.Runs.{Event, Run, start, _▷_, after, isCall}
@@ -54,18 +55,18 @@ abbrev unanswered : Run
 unanswered = start ▷ ends ▷ nothing ▷ refusedOffer ▷ nothing ▷ nothing
 
 pub four-times : alphasInARow freshMaster unanswered ≡ 4
-unfolding alphasInARow stepping sound done firstNot isBlock mayHold trafficOf meaningOf heardOf firstOf isWords listened trafficIn
+unfolding alphasInARow stepping sound owedExists passes codeSignals holdsNeither done firstNot isBlock mayHold trafficOf meaningOf heardOf firstOf isWords listened trafficIn
 four-times = refl
 
 pub no-three : ((run : Run) → alphasInARow freshMaster run ≤ 3) → ⊥
 no-three claim = omega (arith, claim unanswered, four-times)
 
 pub then-standby : (after freshMaster (unanswered ▷ nothing) .place ≡ resting 0) × (alphasInARow freshMaster (unanswered ▷ nothing) ≡ 0)
-unfolding alphasInARow stepping sound done firstNot isBlock mayHold trafficOf meaningOf heardOf firstOf isWords listened trafficIn
+unfolding alphasInARow stepping sound owedExists passes codeSignals holdsNeither done firstNot isBlock mayHold trafficOf meaningOf heardOf firstOf isWords listened trafficIn
 then-standby = (refl, refl)
 
 pub answers-as-it-goes : stepping freshSlave ααα Offer.Nothing ≡ answered (sends (rested freshSlave 0) (asksFor Two))
-unfolding stepping sound done firstNot isBlock mayHold trafficOf meaningOf heardOf firstOf isWords
+unfolding stepping sound owedExists passes codeSignals holdsNeither done firstNot isBlock mayHold trafficOf meaningOf heardOf firstOf isWords
 answers-as-it-goes = refl
 
 -- V X Q K
@@ -73,7 +74,7 @@ abbrev somebody : Identity
 somebody = record { 0 = wordNo 22; 1 = wordNo 24; 2 = wordNo 17; 3 = wordNo 11 }
 
 abbrev set : Own
-set = record { four = somebody; seven = noSeven }
+set = record { four = somebody; seven = noSeven; code = noCode }
 
 -- nothing heard and a call offered; a burst heard and nothing offered
 abbrev calls : Event
@@ -83,19 +84,19 @@ abbrev hears : Words → Event
 hears b = record { burst = b; offer = Offer.Nothing }
 
 pub then-calls : after freshMaster (unanswered ▷ nothing ▷ calls) .place ≡ Calling (record { to = somebody; sent = 1; last = Mark.None })
-unfolding stepping sound done firstNot isBlock mayHold trafficOf meaningOf heardOf firstOf isWords callOf call3Of isCallable isCallable7 isIdentity
+unfolding stepping sound owedExists passes codeSignals holdsNeither done firstNot isBlock mayHold trafficOf meaningOf heardOf firstOf isWords callOf call3Of isCallable isCallable7 isIdentity
 then-calls = refl
 
 pub no-standby-for-good : ((run : Run) (e : Event) → isStandBy (after freshMaster run .place) ≡ true → isStandBy (after freshMaster (run ▷ e) .place) ≡ true) → ⊥
-unfolding stepping sound done firstNot isBlock mayHold trafficOf meaningOf heardOf firstOf isWords callOf call3Of isCallable isCallable7 isIdentity
+unfolding stepping sound owedExists passes codeSignals holdsNeither done firstNot isBlock mayHold trafficOf meaningOf heardOf firstOf isWords callOf call3Of isCallable isCallable7 isIdentity
 no-standby-for-good claim = true≢false (sym (claim (unanswered ▷ nothing) calls refl))
 
 pub then-answers : after (freshAt set) (start ▷ hears (callBlock1 somebody) ▷ hears (callBlock2 somebody)) .place ≡ Receiving One
-unfolding stepping sound done firstNot isBlock mayHold trafficOf meaningOf heardOf firstOf isWords callOf call3Of isCallable isCallable7 isIdentity
+unfolding stepping sound owedExists passes codeSignals holdsNeither done firstNot isBlock mayHold trafficOf meaningOf heardOf firstOf isWords callOf call3Of isCallable isCallable7 isIdentity
 then-answers = refl
 
 pub no-standby-without-calls : ((run : Run) (e : Event) → isStandBy (after (freshAt set) run .place) ≡ true → isCall (e .offer) ≡ false → isStandBy (after (freshAt set) (run ▷ e) .place) ≡ true) → ⊥
-unfolding stepping sound done firstNot isBlock mayHold trafficOf meaningOf heardOf firstOf isWords callOf call3Of isCallable isCallable7 isIdentity
+unfolding stepping sound owedExists passes codeSignals holdsNeither done firstNot isBlock mayHold trafficOf meaningOf heardOf firstOf isWords callOf call3Of isCallable isCallable7 isIdentity
 no-standby-without-calls claim = true≢false (sym (claim (start ▷ hears (callBlock1 somebody)) (hears (callBlock2 somebody)) refl refl))
 
 -- 02, T-05: a set with both identities calls M Q K C A E V, and hears CS5, or CS4 and then nothing
@@ -113,6 +114,7 @@ both =
             5 = wordNo 16;
             6 = wordNo 3;
           };
+      code = noCode;
     }
 
 abbrev other7 : Seven
@@ -135,7 +137,7 @@ times zero run = run
 times (suc n) run = times n run ▷ nothing
 
 pub barred-waits : (alphasInARow (freshAt both) (times 3 (start ▷ calls3 ▷ hears (single cs5))) ≡ 4) × (after (freshAt both) (times 4 (start ▷ calls3 ▷ hears (single cs5))) .place ≡ resting 128)
-unfolding alphasInARow stepping sound done firstNot isBlock mayHold trafficOf meaningOf heardOf firstOf furtherOf isWords callOf call3Of isCallable isCallable7 isIdentity toldIn
+unfolding alphasInARow stepping sound owedExists passes codeSignals holdsNeither done firstNot isBlock mayHold trafficOf meaningOf heardOf firstOf furtherOf isWords callOf call3Of isCallable isCallable7 isIdentity toldIn
 barred-waits = (refl, refl)
 
 pub no-wait-never : ((run : Run) (e : Event) (w : Waiting) → alphasInARow (freshAt both) run ≡ 4 → after (freshAt both) (run ▷ e) .place ≡ StandBy w → w .wait ≡ 0) → ⊥
@@ -146,7 +148,7 @@ abbrev untold : Run
 untold = times 31 (start ▷ calls3 ▷ hears (single cs4))
 
 pub told-32 : (inARow (freshAt both) untold ≡ 31) × (repetition (after (freshAt both) untold) nothing ≡ true) × (isStandBy (after (freshAt both) (untold ▷ nothing) .place) ≡ true)
-unfolding inARow stays stepping sound done firstNot isBlock mayHold trafficOf meaningOf heardOf firstOf furtherOf isWords callOf call3Of isCallable isCallable7 isIdentity toldIn
+unfolding inARow stays stepping sound owedExists passes codeSignals holdsNeither done firstNot isBlock mayHold trafficOf meaningOf heardOf firstOf furtherOf isWords callOf call3Of isCallable isCallable7 isIdentity toldIn
 told-32 = (refl, refl, refl)
 
 pub no-lost-in-identification : ((run : Run) (e : Event) → repetition (after (freshAt both) run) e ≡ true → inARow (freshAt both) run ≡ 31 → isLost (after (freshAt both) (run ▷ e) .place) ≡ true) → ⊥

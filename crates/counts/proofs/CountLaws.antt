@@ -5,7 +5,7 @@
 --               that is offered
 -- Assumes nothing.
 use mathlib.Core.Path.{_≡_, refl, ap, sym, subst, _∙_}
-use mathlib.Core.Bool.{Bool, true, false, not, _&&_, and-false, true≢false}
+use mathlib.Core.Bool.{Bool, true, false, not, _&&_, and-false, and-eq-true-iff, true≢false}
 use Prim.Native.Nat.{ℕ, suc, _≤_}
 use native.Mathlib.Omega.{arith}
 use native.Mathlib.Numerals.{add-one}
@@ -43,7 +43,7 @@ fact-of s b o r e = rw (answers s b o r e .is-done) (step-fact s b o (heardOf (s
 -- and so is the answer of the same station with count 0
 uncounted-is : (s : Station) (b : Words) (o : Offer) (r : Reply) → stepping s b o ≡ answered r → stepping (uncounted s) b o ≡ answered (done (uncounted s) b o (rowOf (s .own) (s .role) (s .place) (heardOf (s .own) b)))
 unfolding sound
-uncounted-is s b o r e = let a = answers s b o r e in is-answered (uncounted s) b o (a .is-sound) (a .is-fine)
+uncounted-is s b o r e = let a = answers s b o r e in is-answered (uncounted s) b o (and-eq-true-iff _ _ .1 (a .is-sound, a .is-owed)) (a .is-passed) (a .is-fine)
 
 -- so a step is a repetition exactly where the row repeats
 told-of : (s : Station) (e : Event) (r : Reply) → stepping s (e .burst) (e .offer) ≡ answered r → repetition s e ≡ isRepeats (rowOf (s .own) (s .role) (s .place) (heardOf (s .own) (e .burst)))

@@ -35,6 +35,7 @@ use Rattle.mode_a.specs.Identification.{identityBlock}
 use Rattle.mode_a.specs.Station.{single, silence, βαβ, ααα, RQ×3, other, asksFor, resting}
 use Rattle.mode_a.specs.Heard.{Heard, heardOf, isWords}
 use Rattle.mode_a.specs.Over.{listenedAll}
+use Rattle.mode_a.specs.Answerback.{passes}
 use Rattle.mode_a.specs.Rows.{rowOf, requests}
 use Rattle.mode_a.specs.Step.{sends, done, repeats, takes, accepts, isOver, waitAt, rested, called3, again, knowing, soundPlace, stepping}
 use Rattle.runs.specs.Places.{atEnding}
@@ -137,17 +138,17 @@ unfolding isWords
 single-no-ααα w = and-false (eqb w alpha)
 
 -- an offer taken: end begins with the first
-taken : (q : Peer) (own : Own) (s : Station) (n : Number) (o : Offer) → InOrder own o → Ends q 0 (takes s n o)
+taken : (q : Peer) (own : Own) (s : Station) (n : Number) (o : Offer) → passes (s .own .code) ≡ true → InOrder own o → Ends q 0 (takes s n o)
 unfolding isWords
-taken q own s n o i =
-    by-take-block (Ends q 0) s n own o i (λ w u y. elsewhere q _ refl (block-no-ααα w y)) (begins q _ refl refl)
+taken q own s n o k i =
+    by-take-block (Ends q 0) s n own o k i (λ v w u y. elsewhere q _ refl (block-no-ααα w y)) (begins q _ refl refl)
 
 accepted : (q : Peer) (s : Station) (n : Number) (b : Words) (o : Offer) → Ends q 0 (accepts s n b o)
 unfolding isWords
 accepted q s n b o =
-    by-accept (Ends q 0) s n b (isOver o) (listenedAll (s .case) (s .plus) b) (λ u. elsewhere q _ refl refl) (elsewhere q _ refl (asked (other n)))
+    by-accept (Ends q 0) s n b o (listenedAll (s .case) (s .plus) b) (λ v u. elsewhere q _ refl refl) (elsewhere q _ refl (asked (other n)))
 
-module _ (s : Station) (b : Words) (o : Offer) (fine : InOrder (s .own) o) (h : Heard) where
+module _ (s : Station) (b : Words) (o : Offer) (passed : passes (s .own .code) ≡ true) (fine : InOrder (s .own) o) (h : Heard) where
   abbrev Row : Place → Doing → Type 0
   Row p d = Ends (s .other) (totalOf p) (done (placed s p) b o d)
 
@@ -158,11 +159,11 @@ module _ (s : Station) (b : Words) (o : Offer) (fine : InOrder (s .own) o) (h : 
   by-place : (p : Place) → soundPlace p ≡ true → letteredAt (s .own) p → Row p (rowOf (s .own) (s .role) p h)
   unfolding done isWords
   by-place (Sending x) i l =
-      by-sending (Row (Sending x)) x (h .first) (λ c. repeated _ (placed s (Sending x)) (x .block) refl (block-no-ααα (x .block) (sym (held-block (x .block)) ∙ i))) (λ c. taken _ (s .own) (placed s (Sending x)) _ o fine) (λ c. elsewhere _ _ refl refl) (λ c. repeated _ (placed s (Sending x)) RQ×3 refl refl)
+      by-sending (Row (Sending x)) x (h .first) (λ c. repeated _ (placed s (Sending x)) (x .block) refl (block-no-ααα (x .block) (sym (held-block (x .block)) ∙ i))) (λ c. taken _ (s .own) (placed s (Sending x)) _ o passed fine) (λ c. elsewhere _ _ refl refl) (λ c. repeated _ (placed s (Sending x)) RQ×3 refl refl)
   by-place (Turning n) i l =
       by-turning (Row (Turning n)) (s .role) n h (elsewhere _ _ refl (asked (other n))) (repeated _ (placed s (Turning n)) βαβ refl refl) (repeated _ (placed s (Turning n)) RQ×3 refl refl)
   by-place Opening i l =
-      by-opening (Row Opening) (s .role) (h .first) (λ n. taken _ (s .own) (placed s Opening) n o fine) (elsewhere _ _ refl refl) (repeated _ (placed s Opening) (requests (s .role)) refl (requests-no-ααα (s .role)))
+      by-opening (Row Opening) (s .role) (h .first) (λ n. taken _ (s .own) (placed s Opening) n o passed fine) (elsewhere _ _ refl refl) (repeated _ (placed s Opening) (requests (s .role)) refl (requests-no-ααα (s .role)))
   by-place (Ending x) i l =
       by-ending (Row (Ending x)) x (h .first) (stands-by (x .total) (placed s (Ending x))) (λ l. more x (leb-false 4 (x .total) l))
   by-place (Receiving n) i l =
@@ -178,11 +179,11 @@ module _ (s : Station) (b : Words) (o : Offer) (fine : InOrder (s .own) o) (h : 
           elsewhere _ _ refl (first-letter (call3Block1 x) (letters-of x (fit .0) .first))
   by-place Lost i l = elsewhere _ _ refl refl
   by-place (Calling c) i l =
-      by-calling (Row (Calling c)) c (h .first) (λ n f m. taken _ (s .own) (knowing (placed s (Calling c)) (Four (c .to))) n o fine) (elsewhere _ _ refl refl) (λ m. elsewhere _ _ refl (called-next (c .to) (c .sent)))
+      by-calling (Row (Calling c)) c (h .first) (λ n f m. taken _ (s .own) (knowing (placed s (Calling c)) (Four (c .to))) n o passed fine) (elsewhere _ _ refl refl) (λ m. elsewhere _ _ refl (called-next (c .to) (c .sent)))
   by-place (Calling3 c) i l =
       by-calling3 (Row (Calling3 c)) (s .own .seven) c (h .first) (λ e. elsewhere _ _ refl (told-block (s .own .seven) Stage.One (l .1))) (λ e. begins _ _ refl refl) (elsewhere _ _ refl refl) (λ m. elsewhere _ _ refl (called3-next (c .to) (c .sent) (l .0)))
   by-place (Identifying x) i l =
-      by-identifying (Row (Identifying x)) (s .own .seven) x (h .first) (λ e. told-again _ (placed s (Identifying x)) (Identifying x) (identityBlock (s .own .seven) (x .stage)) refl (told-block (s .own .seven) (x .stage) l)) (λ e m. elsewhere _ _ refl (told-block (s .own .seven) (nextStage (x .stage)) l)) (λ w e m n k. told-again _ (placed s (Identifying x)) (Identifying (record { to = x .to; stage = x .stage; wrong = x .wrong + 1; last = w })) (identityBlock (s .own .seven) (x .stage)) refl (told-block (s .own .seven) (x .stage) l)) (λ w e m n. begins _ _ refl refl) (λ e m. elsewhere _ _ refl refl) (λ e m. taken _ (s .own) (knowing (placed s (Identifying x)) (Known (x .to))) One o fine) (λ e m. elsewhere _ _ refl refl)
+      by-identifying (Row (Identifying x)) (s .own .seven) x (h .first) (λ e. told-again _ (placed s (Identifying x)) (Identifying x) (identityBlock (s .own .seven) (x .stage)) refl (told-block (s .own .seven) (x .stage) l)) (λ e m. elsewhere _ _ refl (told-block (s .own .seven) (nextStage (x .stage)) l)) (λ w e m n k. told-again _ (placed s (Identifying x)) (Identifying (record { to = x .to; stage = x .stage; wrong = x .wrong + 1; last = w })) (identityBlock (s .own .seven) (x .stage)) refl (told-block (s .own .seven) (x .stage) l)) (λ w e m n. begins _ _ refl refl) (λ e m. elsewhere _ _ refl refl) (λ e m. taken _ (s .own) (knowing (placed s (Identifying x)) (Known (x .to))) One o passed fine) (λ e m. elsewhere _ _ refl refl)
   by-place (Answering g) i l =
       by-answering (Row (Answering g)) (s .own .seven) g h (elsewhere _ _ refl refl) (λ m. by-meet (Ends (s .other) 0) (knowing (placed s (Answering g)) (Known (g .got))) (isOver o) (elsewhere _ _ refl refl) (elsewhere _ _ refl refl)) (λ m x w. elsewhere _ _ refl (single-no-ααα w)) (λ x w. told-again _ (placed s (Answering g)) (Answering (record { stage = g .stage; got = x })) (single w) refl (single-no-ααα w))
 
@@ -190,7 +191,7 @@ ends : (s : Station) (b : Words) (o : Offer) (r : Reply) → stepping s b o ≡ 
 ends s b o r e l = go (answers s b o r e)
   where
     go : Answers s b o r → Ends (s .other) (totalOf (s .place)) r
-    go a = rw (a .is-done) (by-place s b o (a .is-fine) (heardOf (s .own) b) (s .place) (a .is-sound) l)
+    go a = rw (a .is-done) (by-place s b o (a .is-passed) (a .is-fine) (heardOf (s .own) b) (s .place) (a .is-sound) l)
 
 pub total-next : (s : Station) (b : Words) (o : Offer) (r : Reply) (k : ℕ) → stepping s b o ≡ answered r → Lettered s → Total (s .place) k →
     Total (r .station .place) (if isWords (r .sent) ααα then suc k else 0)

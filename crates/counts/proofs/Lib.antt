@@ -4,8 +4,10 @@
 --     StandByLaws     one step at Stand-by: silent but for calls
 --     CountLaws       every run from a fresh station
 --     CountExamples   single runs: the four happen
+--     Refuted         a count that is wrong by one operand
 pub mod StepLaws
 pub mod EndLaws
 pub mod StandByLaws
 pub mod CountLaws
 pub mod CountExamples
+pub mod Refuted

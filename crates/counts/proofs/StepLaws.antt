@@ -17,7 +17,7 @@ use Rattle.mode_a.specs.declared.Place.the-variants.{Sending, Turning, Opening,
 use Rattle.mode_a.specs.declared.Offer.{Offer}
 use Rattle.mode_a.specs.declared.Station.{Station}
 use Rattle.mode_a.specs.declared.Doing.{Doing}
-use Rattle.mode_a.specs.declared.Doing.the-variants.{Repeats, Goes, Takes, Receives, Opens, Accepts, Rests, Answers, Listens, Reaches, Answers3, Bars, Ends, Turns, Meets, Again}
+use Rattle.mode_a.specs.declared.Doing.the-variants.{Repeats, Goes, Takes, Receives, Opens, Accepts, Rests, Answers, Listens, Reaches, Answers3, Bars, Ends, Turns, Meets, Again, Yields}
 use Rattle.mode_a.specs.declared.Reply.{Reply}
 use Rattle.mode_a.specs.Station.{silence, resting}
 use Rattle.mode_a.specs.Heard.{Heard}
@@ -47,6 +47,7 @@ isRepeats (Ends i) = false
 isRepeats (Turns i) = false
 isRepeats (Meets i) = false
 isRepeats (Again p w) = true
+isRepeats (Yields n) = false
 
 -- what holds of a repetition: at one of the five places the 32nd makes it Lost, in identification it leads to Stand-by
 pub record Repeated (s : Station) (r : Reply) : Type 0 where
@@ -168,7 +169,7 @@ else-fact s h d r e told kept zero-now after =
 -- an offer taken, by the station itself or by it with another at the other end: it is at Sending or Ending then, with count 0
 taken-fact : (s s′ : Station) (h : Heard) (d : Doing) (n : Number) (o : Offer) → isRepeats d ≡ false → ((x : Held) → stays (s .place) h (Sending x) ≡ false) → ((e : Ended) → stays (s .place) h (Ending e) ≡ false) → isLost (s .place) ≡ false → Fact s h d (takes s′ n o)
 taken-fact s s′ h d n o none holds ends kept =
-    by-take (Fact s h d) s′ n o (λ w t. else-fact s h d _ none (holds _) kept refl refl) (else-fact s h d _ none (ends _) kept refl refl)
+    by-take (Fact s h d) s′ n o (λ v w t. else-fact s h d _ none (holds _) kept refl refl) (else-fact s h d _ none (ends _) kept refl refl)
 
 module _ (s : Station) (b : Words) (o : Offer) (h : Heard) where
   abbrev Row : Place → Doing → Type 0
@@ -177,15 +178,15 @@ module _ (s : Station) (b : Words) (o : Offer) (h : Heard) where
   row-fact : (p : Place) → Row p (rowOf (s .own) (s .role) p h)
   unfolding done stays
   row-fact (Sending x) =
-      by-sending (Row (Sending x)) x (h .first) (λ y. again _ h b o _ refl refl refl (rw y)) (λ y. taken-fact _ _ h _ _ o refl (λ z. rw y) (λ z. rw y) refl) (λ y. else-fact _ h _ _ refl (rw y) refl refl refl) (λ y. again _ h b o _ refl refl refl (rw y))
+      by-sending (Row (Sending x)) x (h .first) (λ y. again _ h b o _ refl refl refl (rw y)) (λ y. taken-fact _ (placed s (Sending x)) h _ _ o refl (λ z. rw y) (λ z. rw y) refl) (λ y. else-fact _ h _ _ refl (rw y) refl refl refl) (λ y. again _ h b o _ refl refl refl (rw y))
   row-fact (Turning n) =
       by-turning (Row (Turning n)) (s .role) n h (else-fact _ h _ _ refl refl refl refl refl) (again _ h b o _ refl refl refl refl) (again _ h b o _ refl refl refl refl)
   row-fact Opening =
-      by-opening (Row Opening) (s .role) (h .first) (λ n. taken-fact _ _ h _ n o refl (λ z. refl) (λ z. refl) refl) (else-fact _ h _ _ refl refl refl refl refl) (again _ h b o _ refl refl refl refl)
+      by-opening (Row Opening) (s .role) (h .first) (λ n. taken-fact _ (placed s Opening) h _ n o refl (λ z. refl) (λ z. refl) refl) (else-fact _ h _ _ refl refl refl refl refl) (again _ h b o _ refl refl refl refl)
   row-fact (Ending x) =
       by-ending (Row (Ending x)) x (h .first) (else-fact _ h _ _ refl refl refl refl refl) (λ l. else-fact _ h _ _ refl refl refl refl refl)
   row-fact (Receiving n) =
-      by-receiving (Row (Receiving n)) n h (λ y. by-accept (Fact (placed s (Receiving n)) h (Accepts n)) _ n b (isOver o) (listenedAll (s .case) (s .plus) b) (λ u. else-fact _ h _ _ refl (rw y) refl refl refl) (else-fact _ h _ _ refl (rw y) refl refl refl)) (λ y. else-fact _ h _ _ refl (rw y) refl refl refl) (λ y. again _ h b o _ refl refl refl (rw y))
+      by-receiving (Row (Receiving n)) n h (λ y. by-accept (Fact (placed s (Receiving n)) h (Accepts n)) _ n b o (listenedAll (s .case) (s .plus) b) (λ v u. else-fact _ h _ _ refl (rw y) refl refl refl) (else-fact _ h _ _ refl (rw y) refl refl refl)) (λ y. else-fact _ h _ _ refl (rw y) refl refl refl) (λ y. again _ h b o _ refl refl refl (rw y))
   row-fact Asking = by-asking (Row Asking) h (else-fact _ h _ _ refl refl refl refl refl) (again _ h b o _ refl refl refl refl)
   row-fact (StandBy w) =
       by-standing (Row (StandBy w)) w (h .call) (h .call3) (λ y. else-fact _ h _ _ refl refl refl refl refl) (λ y z. else-fact _ h _ _ refl refl refl refl refl) (λ y z. by-listen (Fact (placed s (StandBy w)) h (Listens _)) (placed s (StandBy w)) _ o (λ i c z. else-fact _ h _ _ refl refl refl refl refl) (λ i c z. else-fact _ h _ _ refl refl refl refl refl) (else-fact _ h _ _ refl refl refl refl refl))

@@ -9,9 +9,8 @@ use Rattle.mode_a.specs.declared.Words.{Words}
 use Rattle.mode_a.specs.declared.Mark.{Mark}
 use Rattle.mode_a.specs.declared.Own.{Own}
 use Rattle.mode_a.specs.declared.Place.{Place}
-use Rattle.mode_a.specs.declared.Place.the-variants.{Turning}
 use Rattle.mode_a.specs.declared.Doing.{Doing}
-use Rattle.mode_a.specs.declared.Doing.the-variants.{Repeats, Goes, Takes, Receives, Opens, Accepts, Rests, Bars, Ends, Meets}
+use Rattle.mode_a.specs.declared.Doing.the-variants.{Repeats, Goes, Takes, Receives, Opens, Accepts, Rests, Bars, Ends, Meets, Yields}
 use Rattle.mode_a.specs.Station.{single, silence, βαβ, RQ×3, other, asksFor}
 use Rattle.mode_a.specs.Identification.{toldIn}
 use Rattle.mode_a.specs.Heard.{Cs, Cs3, Else, Cs4, Letter, callOf, call3Of}
@@ -27,7 +26,7 @@ byRole Slave a b = b
 unfoldable pub doingOf : Action → Role → Place → Own → Words → Doing
 doingOf Action.Asked1 r p own b = asked One (numberIn p) (blockIn p)
 doingOf Action.Asked2 r p own b = asked Two (numberIn p) (blockIn p)
-doingOf Action.Turn r p own b = Goes (Turning (numberIn p)) βαβ
+doingOf Action.Turn r p own b = Yields (numberIn p)
 doingOf Action.Rqs r p own b = Repeats RQ×3
 doingOf Action.TurnAgain r p own b = Repeats βαβ
 doingOf Action.Receive r p own b = Receives (other (numberIn p))

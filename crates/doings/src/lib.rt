@@ -1,4 +1,4 @@
-// What each action of the table does at a place: the code's side of 01's rows (01, The station; 02, T-02 and T-05). The law `rows-agree`
+// What each action of the table does at a place: the code's side of 01's rows (01, The station; 02, T-02, T-05 and T-06). The law `rows-agree`
 // says that table and actions together are the rows of `mode_a`. What an action asks further is told by `carried`, `moves`, `calling`,
 // `calling3`, `identifying` and `answering`.
 ghost use mathlib.Core.Path.{_≡_};
@@ -32,7 +32,7 @@ pub fn doing(action: Action, role: Role, place: Place, own: Own, burst: Words) -
                 carried::block_in(place),
             )
         },
-        Action::Turn => Doing::Goes(Place::Turning(carried::number_in(place)), mode_a::TURN),
+        Action::Turn => Doing::Yields(carried::number_in(place)),
         Action::Rqs => Doing::Repeats(mode_a::RQS),
         Action::TurnAgain => Doing::Repeats(mode_a::TURN),
         Action::Receive => Doing::Receives(carried::number_in(place).other()),

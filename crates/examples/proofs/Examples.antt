@@ -9,6 +9,7 @@ use Rattle.identity.specs.Sums.{isCallable7, checkSum}
 use Rattle.mode_a.specs.Calls.{isCallable}
 use Rattle.mode_a.specs.Identification.{toldIn}
 use Rattle.mode_a.specs.Heard.{furtherOf, firstOf, mayHold, isBlock, isWords, callOf, call3Of, heardOf}
+use Rattle.mode_a.specs.Answerback.{codeSignals, holdsNeither, passes, owedExists}
 use Rattle.mode_a.specs.Over.{listened}
 use Rattle.mode_a.specs.Step.{trafficIn, done, sound, stepping}
 use Rattle.mode_b.specs.Sender.{withBreaks, positionsOf, slotsFrom, slotsOf, slotting}
@@ -20,5 +21,5 @@ use Rattle.examples.specs.Sums.{sumExamples}
 use Rattle.examples.specs.Examples.{examples, holds}
 
 pub examples-hold : T (holds examples)
-unfolding holds examples codeExamples textExamples modeAExamples modeBExamples sumExamples isIdentity numberOf signalOf isCallable7 checkSum isCallable toldIn callOf call3Of furtherOf trafficOf firstOf mayHold isBlock isWords heardOf listened trafficIn done sound stepping withBreaks positionsOf slotsFrom slotsOf slotting intactOf onesOf meaningOf firstNot characterOf raised encoded endsEncoded encoding
+unfolding holds examples codeExamples textExamples modeAExamples modeBExamples sumExamples isIdentity numberOf signalOf isCallable7 checkSum isCallable toldIn callOf call3Of furtherOf trafficOf firstOf mayHold isBlock isWords heardOf listened trafficIn done owedExists codeSignals holdsNeither passes sound stepping withBreaks positionsOf slotsFrom slotsOf slotting intactOf onesOf meaningOf firstNot characterOf raised encoded endsEncoded encoding
 examples-hold = tt

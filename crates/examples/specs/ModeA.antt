@@ -14,6 +14,7 @@ use Rattle.mode_a.specs.declared.Words.{Words}
 use Rattle.mode_a.specs.declared.Place.{Place}
 use Rattle.mode_a.specs.declared.Place.the-variants.{Sending, Turning, Opening, Ending, Receiving, Asking, StandBy, Lost, Calling, Calling3, Identifying, Answering}
 use Rattle.mode_a.specs.declared.Peer.the-variants.{Nobody}
+use Rattle.mode_a.specs.declared.Owed.{Owed}
 use Rattle.mode_a.specs.declared.Offer.{Offer}
 use Rattle.mode_a.specs.declared.Station.{Station}
 use Rattle.mode_a.specs.declared.Reply.{Reply}
@@ -37,6 +38,7 @@ sending1 =
       plus = false;
       own = noIdentity;
       other = Nobody;
+      owed = Owed.Nothing;
     }
 
 alike : Words → Words → Bool

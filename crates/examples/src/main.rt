@@ -1,9 +1,12 @@
-// Runs 01's worked examples that are not proved, a byte that has no signal, two calls of two stations, and the limits of printing and of mode B, and writes what each gives.
+// Runs 01's worked examples that are not proved, a byte that has no signal, two calls of two stations, an answer-back, and the limits of printing and of mode B, and writes what each gives.
 use filters::Stream;
 use identity::Seven;
+use mode_a::Code;
+use mode_a::Coded;
 use mode_a::Identity;
 use mode_a::Number;
 use mode_a::Offer;
+use mode_a::Owed;
 use mode_a::Own;
 use mode_a::Peer;
 use mode_a::Place;
@@ -100,7 +103,10 @@ fn print_limits(line: &mut [u8], at: usize) -> usize {
 fn put_place(line: &mut [u8], at: usize, place: Place) -> usize {
     match place {
         Place::Sending(_) => numbers::put_all(line, at, b"Sending"),
+        Place::Turning(_) => numbers::put_all(line, at, b"Turning"),
+        Place::Opening => numbers::put_all(line, at, b"Opening"),
         Place::Receiving(_) => numbers::put_all(line, at, b"Receiving"),
+        Place::Asking => numbers::put_all(line, at, b"Asking"),
         Place::StandBy(_) => numbers::put_all(line, at, b"Stand-by"),
         Place::Lost => numbers::put_all(line, at, b"Lost"),
         Place::Calling(_) => numbers::put_all(line, at, b"Calling"),
@@ -128,6 +134,7 @@ fn put_stepped(line: &mut [u8], at: usize, stepped: Stepped) -> usize {
     match stepped {
         Stepped::Done(reply) => put_reply(line, at, reply),
         Stepped::BadStation(_) => filters::put_refusal(line, at, 4, 0),
+        Stepped::BadCode(_) => filters::put_refusal(line, at, 9, 0),
         Stepped::BadWord(index, _) => filters::put_refusal(line, at, 3, index as u64),
         Stepped::BadCall(index, _) => filters::put_refusal(line, at, 8, index as u64),
     }
@@ -144,8 +151,10 @@ fn repeated(count: u8) -> Station {
         own: Own {
             four: Identity(0, 0, 0, 0),
             seven: Seven(0, 0, 0, 0, 0, 0, 0),
+            code: mode_a::NO_CODE,
         },
         other: Peer::Nobody,
+        owed: Owed::Nothing,
     }
 }
 
@@ -235,10 +244,11 @@ fn refused_calls(line: &mut [u8], at: usize) -> usize {
     )
 }
 
-// Two stations, the burst that the one called has sent, and the place past what was put.
+// Two stations, what the one called is offered until that is taken, the burst that it has sent, and the place past what was put.
 pub struct Pair {
     pub caller: Station,
     pub called: Station,
+    pub waits: Offer,
     pub burst: Words,
     pub at: usize,
 }
@@ -255,10 +265,12 @@ fn put_whether(line: &mut [u8], at: usize, printed: Words) -> usize {
     if printed.0 == 0 {
         return numbers::put_all(line, at, b", ");
     }
-    numbers::put_all(line, at, b", accepted and printed, ")
+    let mut to = numbers::put_all(line, at, b", accepted and printed ");
+    to = put_burst(line, to, printed);
+    numbers::put_all(line, to, b", ")
 }
 
-// What a step sends, whether it printed, and the place it leads to.
+// What a step sends, what it printed, with 0 behind the last signal, and the place it leads to.
 fn put_answer(line: &mut [u8], at: usize, reply: Reply) -> usize {
     let station = reply.station;
     let place = station.place;
@@ -275,7 +287,7 @@ fn put_done(line: &mut [u8], at: usize, offer: Offer, damaged: bool) -> usize {
         return numbers::put_all(line, at, b", the burst damaged: ");
     }
     match offer {
-        Offer::Text(_) => numbers::put_all(line, at, b", TEA offered: "),
+        Offer::Text(_) => numbers::put_all(line, at, b", text offered: "),
         _ => numbers::put_all(line, at, b": "),
     }
 }
@@ -290,81 +302,88 @@ fn put_both(line: &mut [u8], at: usize, one: Reply, two: Reply) -> usize {
 
 fn heard(burst: Words, damaged: bool) -> Words {
     if damaged {
-        return Words(burst.0, 0, burst.2);
+        return Words(0, burst.1, burst.2);
     }
     burst
 }
 
+// What is offered in the next exchange: what was taken is not offered again.
+fn left(offer: Offer, taken: bool) -> Offer {
+    if taken {
+        return Offer::Nothing;
+    }
+    offer
+}
+
 // The caller hears what is on the way and is offered something, and the other hears its burst.
-fn exchange(line: &mut [u8], pair: Pair, offer: Offer, damaged: bool) -> Pair {
+fn exchange(line: &mut [u8], at: usize, pair: Pair, offer: Offer, damaged: bool) -> Pair {
     let caller = pair.caller;
     let called = pair.called;
+    let waits = pair.waits;
     let burst = pair.burst;
     let one = fields::reply_of(station::step(caller, burst, offer));
     let sent = one.sent;
-    let two = fields::reply_of(station::step(called, heard(sent, damaged), Offer::Nothing));
+    let two = fields::reply_of(station::step(called, heard(sent, damaged), waits));
     let caller_after = one.station;
     let called_after = two.station;
     let answered = two.sent;
-    let to = put_done(line, pair.at, offer, damaged);
+    let to = put_done(line, at, offer, damaged);
     Pair {
         caller: caller_after,
         called: called_after,
+        waits: left(waits, two.taken),
         burst: answered,
         at: put_both(line, to, one, two),
     }
 }
 
-// A call as an example: the number past that of its last exchange, the exchanges at which the burst is damaged (bit n for number n), and
-// the one at which TEA is offered.
+// An example: the number past that of its last exchange, the exchanges at which the caller's burst is damaged (bit n for number n), and
+// the one at which this text is offered to the caller.
 pub struct Told {
     pub end: u8,
     pub damaged: u16,
-    pub tea: u8,
+    pub later: u8,
+    pub text: Words,
 }
 
-fn offer_at(number: u8, call: Offer, tea: u8) -> Offer {
+fn offer_at(number: u8, call: Offer, later: u8, text: Words) -> Offer {
     if number == 1 {
         return call;
     }
-    if number == tea {
-        return Offer::Text(Words(116, 86, 71));
+    if number == later {
+        return Offer::Text(text);
     }
     Offer::Nothing
 }
 
-fn numbered(line: &mut [u8], pair: Pair, about: &[u8], number: u8) -> Pair {
-    let caller = pair.caller;
-    let called = pair.called;
-    let burst = pair.burst;
-    let to = numbers::put_all(line, pair.at, about);
-    Pair {
-        caller,
-        called,
-        burst,
-        at: numbers::put_number(line, to, number),
-    }
+fn put_numbered(line: &mut [u8], at: usize, about: &[u8], number: u8) -> usize {
+    let to = numbers::put_all(line, at, about);
+    numbers::put_number(line, to, number)
 }
 
-// The exchanges of a call, in order.
+// The exchanges of an example, in order. At the first the caller is offered `call`.
 fn exchanges(line: &mut [u8], first: Pair, about: &[u8], call: Offer, told: Told) -> Pair {
     let mut pair = first;
     let mut number: u8 = 1;
     let mut damaged = told.damaged;
     let end = told.end;
+    let text = told.text;
     while number < end {
         damaged = damaged / 2;
-        pair = numbered(line, pair, about, number);
+        let at = put_numbered(line, pair.at, about, number);
         pair = exchange(
             line,
+            at,
             pair,
-            offer_at(number, call, told.tea),
+            offer_at(number, call, told.later, text),
             damaged % 2 == 1,
         );
         number += 1;
     }
     pair
 }
+
+const TEA: Words = Words(116, 86, 71);
 
 fn standing(four: Identity) -> Station {
     match Station::standing_by(four) {
@@ -379,13 +398,15 @@ fn worked_call(line: &mut [u8], at: usize) -> usize {
     let pair = Pair {
         caller: standing(DOCK),
         called: standing(VXQZ),
+        waits: Offer::Nothing,
         burst: mode_a::SILENCE,
         at,
     };
     let told = Told {
         end: 8,
         damaged: 0b100,
-        tea: 6,
+        later: 6,
+        text: TEA,
     };
     let last = exchanges(line, pair, b"call, exchange ", Offer::Call(VXQZ), told);
     last.at
@@ -426,13 +447,15 @@ fn worked_identification(line: &mut [u8], at: usize) -> usize {
     let pair = Pair {
         caller: standing_both(DOCK, KQVZRSE),
         called: standing_both(VXQZ, PEARDBY),
+        waits: Offer::Nothing,
         burst: mode_a::SILENCE,
         at,
     };
     let told = Told {
         end: 11,
         damaged: 0b100_0010,
-        tea: 10,
+        later: 10,
+        text: TEA,
     };
     let last = exchanges(
         line,
@@ -448,6 +471,53 @@ fn worked_identification(line: &mut [u8], at: usize) -> usize {
     to = numbers::put_all(line, to, b"; ");
     to = put_known(line, to, called);
     numbers::put(line, to, 10)
+}
+
+// The answer-back code of a coast station: figures 4 5 6, a space, letters and DOCK. Its D stands in letters, and asks nothing.
+const DOCK_CODE: Code = Code {
+    length: 10,
+    first: Words(54, 85, 116),
+    second: Words(43, 92, 90),
+    third: Words(83, 113, 29),
+    fourth: Words(30, 0, 0),
+    fifth: mode_a::SILENCE,
+    sixth: mode_a::SILENCE,
+    seventh: mode_a::SILENCE,
+};
+
+fn coast_station() -> Station {
+    match answerback::with_code(Station::fresh_slave(), DOCK_CODE) {
+        Coded::With(s) => s,
+        // not reached: the code passes
+        Coded::BadCode(s) => s,
+    }
+}
+
+// A ship asks a coast station who it is (02, T-06; 001, 3.7.13.2), by figures D β. CS2, by which it asks for the third block of the code,
+// is damaged once; the last block of the answer turns the direction back. Then it asks by D + ?, in figures still: an over stands in the
+// same block, so that the direction is kept, and TEA, which was offered at the coast station all along, goes out behind the answer.
+fn worked_answer(line: &mut [u8], at: usize) -> usize {
+    let pair = Pair {
+        caller: Station::fresh_master(),
+        called: coast_station(),
+        waits: Offer::Text(TEA),
+        burst: Station::first_burst(),
+        at,
+    };
+    let told = Told {
+        end: 23,
+        damaged: 0b10_0000,
+        later: 13,
+        text: Words(83, 99, 114),
+    };
+    let last = exchanges(
+        line,
+        pair,
+        b"answer-back, exchange ",
+        Offer::Text(Words(54, 83, 51)),
+        told,
+    );
+    last.at
 }
 
 fn put_slots(line: &mut [u8], at: usize, slots: usize) -> usize {
@@ -511,7 +581,7 @@ fn main() {
         return;
     }
     // all lines, which come to less
-    let mut lines = [0u8; 3072];
+    let mut lines = [0u8; 5120];
     let mut at = small_letter(&mut lines, 0);
     at = text(&mut lines, at);
     at = encode_limits(&mut lines, at);
@@ -523,11 +593,12 @@ fn main() {
     at = call_3_line(&mut lines, at);
     at = worked_call(&mut lines, at);
     at = worked_identification(&mut lines, at);
+    at = worked_answer(&mut lines, at);
     at = lengths(&mut lines, at);
     at = longer(&mut lines, at);
     at = send_limits(&mut lines, at);
     at = search_run_4(&mut lines, at);
-    let mut output = [0u8; 3072];
+    let mut output = [0u8; 5120];
     Stream::new()
         .put_line(&mut output, &lines, at)
         .finish(&output, b"examples");

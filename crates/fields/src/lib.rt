@@ -76,6 +76,7 @@ pub fn reply_of(stepped: Stepped) -> Reply {
     match stepped {
         Stepped::Done(reply) => reply,
         Stepped::BadStation(s) => silent(s),
+        Stepped::BadCode(s) => silent(s),
         Stepped::BadWord(_, s) => silent(s),
         Stepped::BadCall(_, s) => silent(s),
     }

@@ -19,6 +19,11 @@ pub struct Put {
     pub case: Case,
 }
 
+// The words of + (Z) and of ? (B), which stand in the over of an answer-back.
+const CROSS: u8 = 99;
+
+const QUERY: u8 = 114;
+
 // The last character of a control signal's name; 0 for another word.
 fn control(word: u8) -> u8 {
     if word == signals::CS1 {
@@ -47,6 +52,15 @@ fn put_name(line: &mut [u8], at: usize, word: u8) -> usize {
     }
     if word == signals::BETA {
         return numbers::put_all(line, at, b"beta");
+    }
+    if word == signals::FIGURES {
+        return numbers::put_all(line, at, b"figures");
+    }
+    if word == CROSS {
+        return numbers::put_all(line, at, b"Z");
+    }
+    if word == QUERY {
+        return numbers::put_all(line, at, b"B");
     }
     // a slave without offers sends no other
     numbers::put_number(line, at, word)

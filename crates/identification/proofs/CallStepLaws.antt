@@ -28,11 +28,11 @@ use Rattle.mode_a.specs.Station.{single, other, asksFor}
 use Rattle.mode_a.specs.Heard.{callOf, call3Of, firstOf, heardOf}
 use Rattle.mode_a.specs.Over.{listenedAll}
 use Rattle.mode_a.specs.Rows.{rowOf, allHeard, heardThen}
-use Rattle.mode_a.specs.Step.{movedTo, heardAt, sends, takes, repeats, accepts, acceptsBy, trafficIn, called3, waitsOn, knowing, again, meets, isOver, done, stepping, rested}
+use Rattle.mode_a.specs.Step.{movedTo, heardAt, sends, takesOffer, takes, repeats, accepts, acceptsBy, trafficIn, called3, waitsOn, knowing, again, meets, isOver, done, stepping, rested}
 use Rattle.runs.specs.Places.{isStandBy, isCalling3}
 use Rattle.runs.specs.Runs.{InOrder}
 use Rattle.runs.proofs.RowLaws.{by-sending, by-turning, by-opening, by-ending, by-receiving, by-asking, by-standing, by-calling, by-calling3, by-identifying, by-answering}
-use Rattle.runs.proofs.StepLaws.{Answers, answers, by-repeat, by-again, by-listen}
+use Rattle.runs.proofs.StepLaws.{Answers, answers, by-repeat, by-again, by-owed, by-heard, by-listen}
 
 -- the offer is a three-block call
 abbrev pub isCall3 : Offer → Bool
@@ -50,18 +50,22 @@ pub data Does (s : Station) (b : Words) (o : Offer) (r : Reply) : Type 0 where
   places : (w : Waiting) (i : Seven) → s .place ≡ StandBy w → o ≡ Offer.Call3 i → isCallable7 i ≡ true → r ≡ called3 s i → Does s b o r
   calls-on : (c : Called3) → s .place ≡ Calling3 c → leb 128 (c .sent) ≡ false → r ≡ sends (movedTo s (Calling3 (record { to = c .to; sent = c .sent + 1 }))) (nextBlock3 (c .to) (c .sent)) → Does s b o r
 
--- an offer taken: a block, or ααα
+-- an offer taken: a block, or ααα; or a block of an answer-back
 taken : (s t : Station) (b : Words) (n : Number) (o : Offer) → Does s b o (takes t n o)
-taken s t b n (Offer.Text w) = elsewhere refl refl refl
-taken s t b n Offer.Over = elsewhere refl refl refl
-taken s t b n Offer.End = elsewhere refl refl refl
-taken s t b n Offer.Nothing = elsewhere refl refl refl
-taken s t b n (Offer.Call x) = elsewhere refl refl refl
-taken s t b n (Offer.Call3 x) = elsewhere refl refl refl
+taken s t b n o = by-owed (Does s b o) t n o (λ e. offer o) (λ e. elsewhere refl refl (and-false (isCall3 o)))
+  where
+    offer : (o : Offer) → Does s b o (takesOffer t n o)
+    offer (Offer.Text w) = elsewhere refl refl refl
+    offer Offer.Over = elsewhere refl refl refl
+    offer Offer.End = elsewhere refl refl refl
+    offer Offer.Nothing = elsewhere refl refl refl
+    offer (Offer.Call x) = elsewhere refl refl refl
+    offer (Offer.Call3 x) = elsewhere refl refl refl
 
 -- a block accepted
 accepted : (s : Station) (n : Number) (b : Words) (o : Offer) → Does s b o (accepts s n b o)
-accepted s n b o = go o (listenedAll (s .case) (s .plus) b)
+accepted s n b o =
+    by-heard (Does s b o) s n b o (listenedAll (s .case) (s .plus) b) (λ a. elsewhere refl refl (and-false (isCall3 o))) (λ a. go o (listenedAll (s .case) (s .plus) b))
   where
     not-taken : (o : Offer) (l : Listening) → Does s b o (acceptsBy s n b false l)
     not-taken o l = tests (l .over)

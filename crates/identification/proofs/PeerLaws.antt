@@ -92,11 +92,11 @@ module _ (s : Station) (b : Words) (o : Offer) (h : Heard) where
   repeats-so p w a n = by-repeat (After (placed s p)) (placed s p) w (λ u. same-end _ _ refl n) (λ u. same-end _ _ refl a)
 
   takes-so : (p : Place) (n : Number) → isBarred (s .other) ≡ false → After (placed s p) (takes (placed s p) n o)
-  takes-so p n a = by-take (After (placed s p)) (placed s p) n o (λ w t. same-end _ _ refl a) (same-end _ _ refl tt)
+  takes-so p n a = by-take (After (placed s p)) (placed s p) n o (λ v w t. same-end _ _ refl a) (same-end _ _ refl tt)
 
   -- the end of a call: this one is at the other end from here on
   reaches-so : (p : Place) (q : Peer) (n : Number) → s .other ≡ Nobody → isBarred q ≡ false → After (placed s p) (takes (knowing (placed s p) q) n o)
-  reaches-so p q n e a = by-take (After (placed s p)) (knowing (placed s p) q) n o (λ w t. nobody-before _ _ e a) (nobody-before _ _ e tt)
+  reaches-so p q n e a = by-take (After (placed s p)) (knowing (placed s p) q) n o (λ v w t. nobody-before _ _ e a) (nobody-before _ _ e tt)
 
   tells-so : (p q : Place) (w : Words) → s .other ≡ Nobody → Apt q Nobody → After (placed s p) (again (placed s p) q w)
   tells-so p q w e a =
@@ -113,7 +113,7 @@ module _ (s : Station) (b : Words) (o : Offer) (h : Heard) where
   by-place (Ending x) a =
       by-ending (Row (Ending x)) x (h .first) (rests-end _ _ refl (left-unknown (s .other))) (λ l. same-end _ _ refl tt)
   by-place (Receiving n) a =
-      by-receiving (Row (Receiving n)) n h (λ y. by-accept (After (placed s (Receiving n))) (placed s (Receiving n)) n b (isOver o) (listenedAll (s .case) (s .plus) b) (λ u. same-end _ _ refl a) (same-end _ _ refl a)) (λ y. rests-end _ _ refl (left-unknown (s .other))) (λ y. repeats-so (Receiving n) _ a a)
+      by-receiving (Row (Receiving n)) n h (λ y. by-accept (After (placed s (Receiving n))) (placed s (Receiving n)) n b o (listenedAll (s .case) (s .plus) b) (λ v u. same-end _ _ refl a) (same-end _ _ refl a)) (λ y. rests-end _ _ refl (left-unknown (s .other))) (λ y. repeats-so (Receiving n) _ a a)
   by-place Asking a = by-asking (Row Asking) h (same-end _ _ refl a) (repeats-so Asking _ a a)
   by-place (StandBy w) a =
       by-standing (Row (StandBy w)) w (h .call) (h .call3) (λ y. unknown-before _ _ a refl) (λ y z. unknown-before _ _ a refl) (λ y z. by-listen (After (placed s (StandBy w))) (placed s (StandBy w)) _ o (λ i c z. unknown-before _ _ a refl) (λ i c z. unknown-before _ _ a refl) (same-end _ _ refl a))

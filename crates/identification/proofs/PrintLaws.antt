@@ -15,7 +15,7 @@ use Rattle.mode_a.specs.declared.Place.the-variants.{Sending, Turning, Opening,
 use Rattle.mode_a.specs.declared.Offer.{Offer}
 use Rattle.mode_a.specs.declared.Station.{Station}
 use Rattle.mode_a.specs.declared.Doing.{Doing}
-use Rattle.mode_a.specs.declared.Doing.the-variants.{Repeats, Goes, Takes, Receives, Opens, Accepts, Rests, Answers, Listens, Reaches, Answers3, Bars, Ends, Turns, Meets, Again}
+use Rattle.mode_a.specs.declared.Doing.the-variants.{Repeats, Goes, Takes, Receives, Opens, Accepts, Rests, Answers, Listens, Reaches, Answers3, Bars, Ends, Turns, Meets, Again, Yields}
 use Rattle.mode_a.specs.declared.Reply.{Reply}
 use Rattle.mode_a.specs.Station.{silence}
 use Rattle.mode_a.specs.Heard.{Heard, heardOf}
@@ -45,6 +45,7 @@ isAccepts (Ends i) = false
 isAccepts (Turns i) = false
 isAccepts (Meets i) = false
 isAccepts (Again p w) = false
+isAccepts (Yields n) = false
 
 -- a row accepts exactly where Receiving hears a block
 Is : Bool → Doing → Type 0
@@ -70,20 +71,21 @@ printed-by : (s : Station) (b : Words) (o : Offer) (d : Doing) → done s b o d 
 unfolding done
 printed-by s b o (Repeats w) = by-repeat (λ (r : Reply). r .printed ≡ silence) s w (λ u. refl) (λ u. refl)
 printed-by s b o (Goes p w) = refl
-printed-by s b o (Takes n) = by-take (λ (r : Reply). r .printed ≡ silence) s n o (λ w t. refl) refl
+printed-by s b o (Takes n) = by-take (λ (r : Reply). r .printed ≡ silence) s n o (λ v w t. refl) refl
 printed-by s b o (Receives n) = refl
 printed-by s b o Opens = refl
-printed-by s b o (Accepts n) = by-accept (λ (r : Reply). r .printed ≡ trafficIn b) s n b (isOver o) (listenedAll (s .case) (s .plus) b) (λ u. refl) refl
+printed-by s b o (Accepts n) = by-accept (λ (r : Reply). r .printed ≡ trafficIn b) s n b o (listenedAll (s .case) (s .plus) b) (λ v u. refl) refl
 printed-by s b o (Rests n w) = refl
 printed-by s b o Answers = refl
 printed-by s b o (Listens w) = by-listen (λ (r : Reply). r .printed ≡ silence) s w o (λ i e z. refl) (λ i e z. refl) refl
-printed-by s b o (Reaches p n) = by-take (λ (r : Reply). r .printed ≡ silence) (knowing s p) n o (λ w t. refl) refl
+printed-by s b o (Reaches p n) = by-take (λ (r : Reply). r .printed ≡ silence) (knowing s p) n o (λ v w t. refl) refl
 printed-by s b o Answers3 = refl
 printed-by s b o (Bars i) = refl
 printed-by s b o (Ends i) = refl
 printed-by s b o (Turns i) = refl
 printed-by s b o (Meets i) = by-meet (λ (r : Reply). r .printed ≡ silence) (knowing s (Known i)) (isOver o) refl refl
 printed-by s b o (Again p w) = by-again (λ (r : Reply). r .printed ≡ silence) s p w (λ u. refl) (λ u. refl)
+printed-by s b o (Yields n) = refl
 
 module _ (s : Station) (e : Event) (r : Reply) (answer : said s e ≡ answered r) where
   text-alone : r .printed ≡ (if accepting (s .place) (heardOf (s .own) (e .burst)) then trafficIn (e .burst) else silence)

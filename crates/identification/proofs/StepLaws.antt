@@ -142,7 +142,7 @@ module _ (s : Station) (b : Words) (o : Offer) where
   repeats-so p w e = by-repeat (Does (placed s p) b) (placed s p) w (λ u. elsewhere e refl) (λ u. elsewhere e e)
 
   takes-so : (p : Place) (t : Station) (n : Number) → telling p ≡ false → Does (placed s p) b (takes t n o)
-  takes-so p t n e = by-take (Does (placed s p) b) t n o (λ w u. elsewhere e refl) (elsewhere e refl)
+  takes-so p t n e = by-take (Does (placed s p) b) t n o (λ v w u. elsewhere e refl) (elsewhere e refl)
 
   -- the repetitions of Identifying, by whether a wrong check-sum was heard
   told : (i : Identified) → wrongAt (i .stage) (i .to) (firstOf (b .0)) ≡ false → Does (placed s (Identifying i)) b (again (placed s (Identifying i)) (Identifying i) (identityBlock (s .own .seven) (i .stage)))
@@ -190,14 +190,14 @@ module _ (s : Station) (b : Words) (o : Offer) where
   by-place : (p : Place) → Row p (rowOf (s .own) (s .role) p (heardOf (s .own) b))
   unfolding done heardOf
   by-place (Sending x) =
-      by-sending (Row (Sending x)) x (firstOf (b .0)) (λ c. repeats-so (Sending x) _ refl) (λ c. takes-so (Sending x) _ _ refl) (λ c. elsewhere refl refl) (λ c. repeats-so (Sending x) _ refl)
+      by-sending (Row (Sending x)) x (firstOf (b .0)) (λ c. repeats-so (Sending x) _ refl) (λ c. takes-so (Sending x) (placed s (Sending x)) _ refl) (λ c. elsewhere refl refl) (λ c. repeats-so (Sending x) _ refl)
   by-place (Turning n) =
       by-turning (Row (Turning n)) (s .role) n (heardOf (s .own) b) (elsewhere refl refl) (repeats-so (Turning n) _ refl) (repeats-so (Turning n) _ refl)
   by-place Opening =
-      by-opening (Row Opening) (s .role) (firstOf (b .0)) (λ n. takes-so Opening _ n refl) (elsewhere refl refl) (repeats-so Opening _ refl)
+      by-opening (Row Opening) (s .role) (firstOf (b .0)) (λ n. takes-so Opening (placed s Opening) n refl) (elsewhere refl refl) (repeats-so Opening _ refl)
   by-place (Ending x) = by-ending (Row (Ending x)) x (firstOf (b .0)) (elsewhere refl refl) (λ l. elsewhere refl refl)
   by-place (Receiving n) =
-      by-receiving (Row (Receiving n)) n (heardOf (s .own) b) (λ y. by-accept (Does (placed s (Receiving n)) b) (placed s (Receiving n)) n b (isOver o) (listenedAll (s .case) (s .plus) b) (λ u. elsewhere refl refl) (elsewhere refl refl)) (λ y. elsewhere refl refl) (λ y. repeats-so (Receiving n) _ refl)
+      by-receiving (Row (Receiving n)) n (heardOf (s .own) b) (λ y. by-accept (Does (placed s (Receiving n)) b) (placed s (Receiving n)) n b o (listenedAll (s .case) (s .plus) b) (λ v u. elsewhere refl refl) (elsewhere refl refl)) (λ y. elsewhere refl refl) (λ y. repeats-so (Receiving n) _ refl)
   by-place Asking = by-asking (Row Asking) (heardOf (s .own) b) (elsewhere refl refl) (repeats-so Asking _ refl)
   by-place (StandBy w) =
       by-standing (Row (StandBy w)) w (heardOf (s .own) b .call) (heardOf (s .own) b .call3) (λ y. elsewhere refl refl) (λ y z. enters refl refl refl refl) (λ y z. by-listen (Does (placed s (StandBy w)) b) (placed s (StandBy w)) _ o (λ i c z. elsewhere refl refl) (λ i c z. elsewhere refl refl) (elsewhere refl refl))
@@ -207,7 +207,7 @@ module _ (s : Station) (b : Words) (o : Offer) where
   by-place (Calling3 c) =
       by-calling3 (Row (Calling3 c)) (s .own .seven) c (firstOf (b .0)) (λ e. enters refl refl refl refl) (λ e. elsewhere refl refl) (elsewhere refl refl) (λ l. elsewhere refl refl)
   by-place (Identifying i) =
-      by-identifying (Row (Identifying i)) (s .own .seven) i (firstOf (b .0)) (λ f. told i f) (λ f l. goes-on (record { here = refl; same = refl; stage = next-stage (i .stage) l; counted = refl; not-wrong = f; last = refl })) (λ w e f n l. told-wrong i w e f l) (λ w e f n. leaves refl refl (λ x. refl)) (λ f l. leaves refl refl (λ x. refl)) (λ e l. by-take (Does (placed s (Identifying i)) b) (knowing (placed s (Identifying i)) (Known (i .to))) One o (λ w t. leaves refl refl (λ x. absurd (true≢false (sym x ∙ last-not-wrong (i .stage) i b l)))) (leaves refl refl (λ x. refl))) (λ e l. leaves refl refl (λ x. absurd (true≢false (sym x ∙ last-not-wrong (i .stage) i b l))))
+      by-identifying (Row (Identifying i)) (s .own .seven) i (firstOf (b .0)) (λ f. told i f) (λ f l. goes-on (record { here = refl; same = refl; stage = next-stage (i .stage) l; counted = refl; not-wrong = f; last = refl })) (λ w e f n l. told-wrong i w e f l) (λ w e f n. leaves refl refl (λ x. refl)) (λ f l. leaves refl refl (λ x. refl)) (λ e l. by-take (Does (placed s (Identifying i)) b) (knowing (placed s (Identifying i)) (Known (i .to))) One o (λ v w t. leaves refl refl (λ x. absurd (true≢false (sym x ∙ last-not-wrong (i .stage) i b l)))) (leaves refl refl (λ x. refl))) (λ e l. leaves refl refl (λ x. absurd (true≢false (sym x ∙ last-not-wrong (i .stage) i b l))))
   by-place (Answering g) =
       by-answering (Row (Answering g)) (s .own .seven) g (heardOf (s .own) b) (leaves refl refl (λ x. refl)) (λ l. by-meet (Does (placed s (Answering g)) b) (knowing (placed s (Answering g)) (Known (g .got))) (isOver o) (leaves refl refl (λ x. absurd (false≢true x))) (leaves refl refl (λ x. absurd (false≢true x)))) (λ l x w. goes-on (record { here = refl; same = refl; stage = next-stage (g .stage) l; counted = refl; not-wrong = refl; last = refl })) (λ x w. asked g x w)
 

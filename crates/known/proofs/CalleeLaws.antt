@@ -126,7 +126,7 @@ module _ (i y : Seven) (ci : isCallable7 i ≡ true) (cy : isCallable7 y ≡ tru
       stays : (v : ℕ) → Says i u t v → r ≡ done (c .hearer) b (e .offer) (asksOn t (gathered y t) v) → InCall i y d
       unfolding done
       stays v s j =
-          by-again (λ (g : Reply). r ≡ g → InCall i y d) (c .hearer) (answeringAt y t) (single v) (λ t j. says (standing _ (ap (λ (r : Reply). r .station .place) j) refl (none-heard i (r .station .own .seven) u)) (ap (λ (r : Reply). r .sent) j) (rw (p, j) (refl, refl, refl, refl))) (λ g j. says (answering t v s (rw j (record { role-is = o .role-is; case-is = o .case-is; plus-is = o .plus-is; own-is = o .own-is })) (ap (λ (r : Reply). r .station .place) j)) (ap (λ (r : Reply). r .sent) j) (rw (p, j) (refl, refl, refl, refl))) j
+          by-again (λ (g : Reply). r ≡ g → InCall i y d) (c .hearer) (answeringAt y t) (single v) (λ t j. says (standing _ (ap (λ (r : Reply). r .station .place) j) refl (none-heard i (r .station .own .seven) u)) (ap (λ (r : Reply). r .sent) j) (rw (p, j) (refl, refl, refl, refl))) (λ g j. says (answering t v s (rw j (record { role-is = o .role-is; case-is = o .case-is; plus-is = o .plus-is; owed-is = o .owed-is; own-is = o .own-is })) (ap (λ (r : Reply). r .station .place) j)) (ap (λ (r : Reply). r .sent) j) (rw (p, j) (refl, refl, refl, refl))) j
 
       not-told : {v : ℕ} → Says i u t v → isWords b ααα ≡ false → isWords b RQ×3 ≡ false → toldIn b ≡ nothing-told → InCall i y d
       not-told s na nr nt =
@@ -142,7 +142,7 @@ module _ (i y : Seven) (ci : isCallable7 i ≡ true) (cy : isCallable7 y ≡ tru
       go : (g : Bool) → allHeard (x .heard3) (call3Of (c .hearer .own .seven) b) ≡ g → InCall i y d
       go true g =
           let j = standby-answers3 (c .hearer) b (e .offer) r z x p (both calls k (call-block f) x p t) g in
-          says calls k (call-block f) (answering Stage.One cs4 asks-calling (rw j (record { role-is = refl; case-is = refl; plus-is = refl; own-is = same-heard i (c .hearer .own .seven) (x .heard3) (call3Of (c .hearer .own .seven) b) g l so })) (ap (λ (r : Reply). r .station .place) j)) (ap (λ (r : Reply). r .sent) j) (rw (p, j) (refl, refl, refl, refl))
+          says calls k (call-block f) (answering Stage.One cs4 asks-calling (rw j (record { role-is = refl; case-is = refl; plus-is = refl; owed-is = refl; own-is = same-heard i (c .hearer .own .seven) (x .heard3) (call3Of (c .hearer .own .seven) b) g l so })) (ap (λ (r : Reply). r .station .place) j)) (ap (λ (r : Reply). r .sent) j) (rw (p, j) (refl, refl, refl, refl))
       go false g =
           listens-on calls k (call-block f) x p t g (same-then i (c .hearer .own .seven) (x .heard3) (call3Of (c .hearer .own .seven) b) l so)
   at-standing u k (identity-block s f) x p t l =
@@ -168,7 +168,7 @@ module _ (i y : Seven) (ci : isCallable7 i ≡ true) (cy : isCallable7 y ≡ tru
     unfolding done
     now j p =
         let g : r ≡ done (c .hearer) b (e .offer) (gathers (nextStage s) (gathered y (nextStage s)) (sumOf s i)) = row (tells s) k f s o p _ no-ααα (ap (λ (g : Bool). g && isLast s) (RQs ∙ j)) (ap (hearing (c .hearer .own .seven) (gathered y s) s) told ∙ heard-now (c .hearer .own .seven) y s j ∙ ap (λ (x : Seven). gathers (nextStage s) (gathered y (nextStage s)) (sumOf s x)) (o .own-is)) in
-        says (tells s) k f (answering (nextStage s) (sumOf s i) (sums s j) (rw g (record { role-is = o .role-is; case-is = o .case-is; plus-is = o .plus-is; own-is = o .own-is })) (ap (λ (r : Reply). r .station .place) g)) (ap (λ (r : Reply). r .sent) g) (rw (p, g) (refl, refl, refl, refl))
+        says (tells s) k f (answering (nextStage s) (sumOf s i) (sums s j) (rw g (record { role-is = o .role-is; case-is = o .case-is; plus-is = o .plus-is; owed-is = o .owed-is; own-is = o .own-is })) (ap (λ (r : Reply). r .station .place) g)) (ap (λ (r : Reply). r .sent) g) (rw (p, g) (refl, refl, refl, refl))
 
   met : (k : Caller i y (tells Stage.Four) (c .sender)) (f : Bursts i y (c .burst) (tells Stage.Four)) → b ≡ identityBlock y Stage.Four → Slaved i (c .hearer) → c .hearer .place ≡ answeringAt y Stage.Four → InCall i y d
   unfolding done heardOf
@@ -177,9 +177,9 @@ module _ (i y : Seven) (ci : isCallable7 i ≡ true) (cy : isCallable7 y ≡ tru
     where
       so : (t : Bool) → r ≡ meets (knowing (c .hearer) (Known y)) t → InCall i y d
       so true j =
-          says (tells Stage.Four) k f (meeting true (rw j (record { role-is = o .role-is; case-is = o .case-is; plus-is = o .plus-is; own-is = o .own-is })) (ap (λ (r : Reply). r .station .place) j) (ap (λ (r : Reply). r .station .other) j) (ap (λ (r : Reply). leb (r .station .count) 31) j)) (ap (λ (r : Reply). r .sent) j) (rw (p, j) (refl, refl, refl, refl))
+          says (tells Stage.Four) k f (meeting true (rw j (record { role-is = o .role-is; case-is = o .case-is; plus-is = o .plus-is; owed-is = o .owed-is; own-is = o .own-is })) (ap (λ (r : Reply). r .station .place) j) (ap (λ (r : Reply). r .station .other) j) (ap (λ (r : Reply). leb (r .station .count) 31) j)) (ap (λ (r : Reply). r .sent) j) (rw (p, j) (refl, refl, refl, refl))
       so false j =
-          says (tells Stage.Four) k f (meeting false (rw j (record { role-is = o .role-is; case-is = o .case-is; plus-is = o .plus-is; own-is = o .own-is })) (ap (λ (r : Reply). r .station .place) j) (ap (λ (r : Reply). r .station .other) j) (ap (λ (r : Reply). leb (r .station .count) 31) j)) (ap (λ (r : Reply). r .sent) j) (rw (p, j) (refl, refl, refl, refl))
+          says (tells Stage.Four) k f (meeting false (rw j (record { role-is = o .role-is; case-is = o .case-is; plus-is = o .plus-is; owed-is = o .owed-is; own-is = o .own-is })) (ap (λ (r : Reply). r .station .place) j) (ap (λ (r : Reply). r .station .other) j) (ap (λ (r : Reply). leb (r .station .count) 31) j)) (ap (λ (r : Reply). r .sent) j) (rw (p, j) (refl, refl, refl, refl))
 
   here : (s : Stage) (k : Caller i y (tells s) (c .sender)) (f : Bursts i y (c .burst) (tells s)) → b ≡ identityBlock y s → Slaved i (c .hearer) → c .hearer .place ≡ answeringAt y s → InCall i y d
   here Stage.One k f w o p = now Stage.One k f w o refl p
@@ -198,7 +198,7 @@ module _ (i y : Seven) (ci : isCallable7 i ≡ true) (cy : isCallable7 y ≡ tru
   at-meeting : (k : Caller i y (tells Stage.Four) (c .sender)) (f : Bursts i y (c .burst) (tells Stage.Four)) (t : Bool) → Slaved i (c .hearer) → c .hearer .place ≡ metAt t → c .hearer .other ≡ Known y → InCall i y d
   unfolding done heardOf
   at-meeting k (identity-block _ f) t o p v =
-      by-repeat (λ (g : Reply). r ≡ g → InCall i y d) (c .hearer) (metBy t) (λ g j. says (tells Stage.Four) k (identity-block Stage.Four f) (lost (ap (λ (r : Reply). r .station .place) j)) (ap (λ (r : Reply). r .sent) j) (carries t p (ap (λ (r : Reply). r .printed) j))) (λ g j. says (tells Stage.Four) k (identity-block Stage.Four f) (meeting t (rw j (record { role-is = o .role-is; case-is = o .case-is; plus-is = o .plus-is; own-is = o .own-is })) (ap (λ (r : Reply). r .station .place) j ∙ p) (ap (λ (r : Reply). r .station .other) j ∙ v) (ap (λ (r : Reply). leb (r .station .count) 31) j ∙ more g)) (ap (λ (r : Reply). r .sent) j) (carries t p (ap (λ (r : Reply). r .printed) j))) (repeated t p)
+      by-repeat (λ (g : Reply). r ≡ g → InCall i y d) (c .hearer) (metBy t) (λ g j. says (tells Stage.Four) k (identity-block Stage.Four f) (lost (ap (λ (r : Reply). r .station .place) j)) (ap (λ (r : Reply). r .sent) j) (carries t p (ap (λ (r : Reply). r .printed) j))) (λ g j. says (tells Stage.Four) k (identity-block Stage.Four f) (meeting t (rw j (record { role-is = o .role-is; case-is = o .case-is; plus-is = o .plus-is; owed-is = o .owed-is; own-is = o .own-is })) (ap (λ (r : Reply). r .station .place) j ∙ p) (ap (λ (r : Reply). r .station .other) j ∙ v) (ap (λ (r : Reply). leb (r .station .count) 31) j ∙ more g)) (ap (λ (r : Reply). r .sent) j) (carries t p (ap (λ (r : Reply). r .printed) j))) (repeated t p)
     where
       RQ×3-is : (w : Words) → w ≡ RQ×3 → (isBlock w ≡ false) × (isWords w ααα ≡ false) × (isWords w βαβ ≡ false)
       RQ×3-is w j = unfold isBlock mayHold trafficOf meaningOf isWords in subst (λ (w : Words). (isBlock w ≡ false) × (isWords w ααα ≡ false) × (isWords w βαβ ≡ false)) (sym j) (refl, refl, refl)

@@ -33,11 +33,12 @@ use Rattle.mode_a.specs.Identification.{identityBlock}
 use Rattle.mode_a.specs.Station.{single, silence, resting}
 use Rattle.mode_a.specs.Heard.{First, Cs, Cs3, Rq, Else, Cs4, Letter, Other, furtherOf, firstOf, mayHold, isBlock, heardOf}
 use Rattle.mode_a.specs.Rows.{calling3, sameBlock, rightSum, atStage, isLast}
-use Rattle.mode_a.specs.Step.{standsAt, sends, holds, takes, turns, knowing, done}
+use Rattle.mode_a.specs.Step.{standsAt, sends, holds, takesOffer, takesBy, turns, knowing, done}
 use Rattle.runs.specs.Places.{isSending}
 use Rattle.runs.specs.Runs.{InOrder, taking, nextStage}
+use Rattle.runs.specs.Taken.{blockOf}
 use Rattle.runs.proofs.StepLaws.{Answers as Answered, answers, by-again}
-use Rattle.circuit.specs.Circuit.{Event, heard, Harmless, Circuit, said, blockOf, confirmedBy, acceptedBy, answeredBy}
+use Rattle.circuit.specs.Circuit.{Event, heard, Harmless, Circuit, said, confirmedBy, acceptedBy, answeredBy}
 use Rattle.circuit.specs.Starts.{Begins, with-block, with-end, CallCompleted, CallTurned}
 use Rattle.circuit.proofs.DamageLaws.{mangled, FirstIs, said as as-said, unsaid}
 use Rattle.circuit.proofs.ReplyLaws.{asks-first, silence-first, first-of}
@@ -96,7 +97,7 @@ module _ (i y : Seven) (c : Circuit) (e : Event) (h : Harmless e) (r : Reply) (i
   module _ {u : Telling} (a : Caller i y u (c .hearer)) where
     goes : {w : Words} (u′ : Telling) (x : Place) (k : ℕ) (v : Words) → Callee i y (c .sender) u′ w → CallerAt i x u′ → Bursts i y v u′ → isSending x ≡ false → r ≡ sends (standsAt (c .hearer) x k (c .hearer .case) (c .hearer .plus)) v → Result
     goes u′ x k v o p f s j =
-        goes-on u′ o (rw j (record { at = p; role-is = a .role-is; case-is = a .case-is; plus-is = a .plus-is; own-is = a .own-is })) (rw j f) (none-carried (a .at) x (ap (λ (r : Reply). r .station .place) j) s (ap (λ (r : Reply). r .printed) j))
+        goes-on u′ o (rw j (record { at = p; role-is = a .role-is; case-is = a .case-is; plus-is = a .plus-is; owed-is = a .owed-is; own-is = a .own-is })) (rw j f) (none-carried (a .at) x (ap (λ (r : Reply). r .station .place) j) s (ap (λ (r : Reply). r .printed) j))
 
     stop : (s : Station) (k : ℕ) → s .place ≡ resting k → r ≡ sends s silence → Result
     stop s k p j =
@@ -150,19 +151,19 @@ module _ (i y : Seven) (c : Circuit) (e : Event) (h : Harmless e) (r : Reply) (i
 
     -- CS1: the offer is taken under number 1
     module _ (q : c .sender .place ≡ metAt false) (f : taking (c .hearer .place) (firstOf (b .0)) ≡ true) where
-      completed : Begins d → r .printed ≡ silence → r .station .role ≡ c .hearer .role → r .station .count ≡ 0 → r .station .case ≡ c .hearer .case → r .station .plus ≡ c .hearer .plus → r .station .other ≡ Known i → r .station .own ≡ c .hearer .own → Result
-      completed g j x₁ x₂ x₃ x₄ x₅ x₆ =
-          completes (inl (record { sender-role = x₁ ∙ a .role-is; sender-count = x₂; sender-case = x₃ ∙ a .case-is; sender-plus = x₄ ∙ a .plus-is; begins = g; hearer-role = o .role-is; hearer-place = q; hearer-count = m; hearer-case = o .case-is; hearer-plus = o .plus-is; none-from-hearer = rw (n .from-sender-is, p, j) })) (known x₅ x₆) (sym (o .own-is))
+      completed : Begins d → r .printed ≡ silence → r .station .role ≡ c .hearer .role → r .station .count ≡ 0 → r .station .case ≡ c .hearer .case → r .station .plus ≡ c .hearer .plus → r .station .other ≡ Known i → r .station .own ≡ c .hearer .own → r .station .owed ≡ c .hearer .owed → Result
+      completed g j x₁ x₂ x₃ x₄ x₅ x₆ x₇ =
+          completes (inl (record { sender-role = x₁ ∙ a .role-is; sender-count = x₂; sender-case = x₃ ∙ a .case-is; sender-plus = x₄ ∙ a .plus-is; begins = g; sender-owed = x₇ ∙ a .owed-is; hearer-role = o .role-is; hearer-place = q; hearer-count = m; hearer-case = o .case-is; hearer-plus = o .plus-is; hearer-owed = o .owed-is; none-from-hearer = rw (n .from-sender-is, p, j) })) (known x₅ x₆) (sym (o .own-is))
 
       by-block : (w : Words) (t : Bool) → blockOf (e .offer) ≡ w ∷ [] → isBlock w ≡ true → r ≡ holds now One w t → Result
       by-block w t x g j =
-          completed (with-block g (ap (λ (r : Reply). r .station .place) j) (ap (λ (r : Reply). r .sent) j) (rw (n .from-hearer-is, f, p, j, x))) (ap (λ (r : Reply). r .printed) j) (ap (λ (r : Reply). r .station .role) j) (ap (λ (r : Reply). r .station .count) j) (ap (λ (r : Reply). r .station .case) j) (ap (λ (r : Reply). r .station .plus) j) (ap (λ (r : Reply). r .station .other) j) (ap (λ (r : Reply). r .station .own) j)
+          completed (with-block g (ap (λ (r : Reply). r .station .place) j) (ap (λ (r : Reply). r .sent) j) (rw (n .from-hearer-is, f, p, j, a .owed-is, x))) (ap (λ (r : Reply). r .printed) j) (ap (λ (r : Reply). r .station .role) j) (ap (λ (r : Reply). r .station .count) j) (ap (λ (r : Reply). r .station .case) j) (ap (λ (r : Reply). r .station .plus) j) (ap (λ (r : Reply). r .station .other) j) (ap (λ (r : Reply). r .station .own) j) (ap (λ (r : Reply). r .station .owed) j)
 
-      by-end : r ≡ takes now One Offer.End → Result
+      by-end : r ≡ takesOffer now One Offer.End → Result
       by-end j =
-          completed (with-end (ap (λ (r : Reply). r .station .place) j) (ap (λ (r : Reply). r .sent) j) (rw (n .from-hearer-is, f, p, j))) (ap (λ (r : Reply). r .printed) j) (ap (λ (r : Reply). r .station .role) j) (ap (λ (r : Reply). r .station .count) j) (ap (λ (r : Reply). r .station .case) j) (ap (λ (r : Reply). r .station .plus) j) (ap (λ (r : Reply). r .station .other) j) (ap (λ (r : Reply). r .station .own) j)
+          completed (with-end (ap (λ (r : Reply). r .station .place) j) (ap (λ (r : Reply). r .sent) j) (rw (n .from-hearer-is, f, p, j))) (ap (λ (r : Reply). r .printed) j) (ap (λ (r : Reply). r .station .role) j) (ap (λ (r : Reply). r .station .count) j) (ap (λ (r : Reply). r .station .case) j) (ap (λ (r : Reply). r .station .plus) j) (ap (λ (r : Reply). r .station .other) j) (ap (λ (r : Reply). r .station .own) j) (ap (λ (r : Reply). r .station .owed) j)
 
-      by-offer : (x : Offer) → e .offer ≡ x → InOrder (c .hearer .own) x → r ≡ takes now One x → Result
+      by-offer : (x : Offer) → e .offer ≡ x → InOrder (c .hearer .own) x → r ≡ takesOffer now One x → Result
       unfolding isBlock mayHold trafficOf meaningOf
       by-offer (Offer.Text w) x g j = by-block w true (ap blockOf x) g j
       by-offer Offer.Over x g j = by-block _ true (ap blockOf x) refl j
@@ -174,7 +175,7 @@ module _ (i y : Seven) (c : Circuit) (e : Event) (h : Harmless e) (r : Reply) (i
     begins : c .sender .place ≡ metAt false → firstOf (b .0) ≡ Cs One → Result
     unfolding done
     begins q g =
-        by-offer q (rw (p, g)) (e .offer) refl (z .is-fine) (tells-row Stage.Four k l a p (Cs One) _ g refl)
+        by-offer q (rw (p, g)) (e .offer) refl (z .is-fine) (tells-row Stage.Four k l a p (Cs One) _ g refl ∙ ap (takesBy now One (e .offer)) (a .owed-is))
 
     -- CS3: βαβ, and the slave is to send first
     turned : c .sender .place ≡ metAt true → firstOf (b .0) ≡ Cs3 → Result
@@ -182,7 +183,7 @@ module _ (i y : Seven) (c : Circuit) (e : Event) (h : Harmless e) (r : Reply) (i
     turned q g =
         let j : r ≡ turns now = tells-row Stage.Four k l a p Cs3 _ g refl in
         let x = none-carried (a .at) _ (ap (λ (r : Reply). r .station .place) j) refl (ap (λ (r : Reply). r .printed) j) in
-        completes (inr (record { sender-role = ap (λ (r : Reply). r .station .role) j ∙ a .role-is; sender-place = ap (λ (r : Reply). r .station .place) j; sender-count = ap (λ (r : Reply). r .station .count) j; sender-case = ap (λ (r : Reply). r .station .case) j ∙ a .case-is; sender-plus = ap (λ (r : Reply). r .station .plus) j ∙ a .plus-is; burst-is = ap (λ (r : Reply). r .sent) j; hearer-role = o .role-is; hearer-place = q; hearer-count = m; hearer-case = o .case-is; hearer-plus = o .plus-is; none-from-hearer = x .from-hearer-is; none-from-sender = x .from-sender-is })) (known (ap (λ (r : Reply). r .station .other) j) (ap (λ (r : Reply). r .station .own) j)) (sym (o .own-is))
+        completes (inr (record { sender-role = ap (λ (r : Reply). r .station .role) j ∙ a .role-is; sender-place = ap (λ (r : Reply). r .station .place) j; sender-count = ap (λ (r : Reply). r .station .count) j; sender-case = ap (λ (r : Reply). r .station .case) j ∙ a .case-is; sender-plus = ap (λ (r : Reply). r .station .plus) j ∙ a .plus-is; sender-owed = ap (λ (r : Reply). r .station .owed) j ∙ a .owed-is; burst-is = ap (λ (r : Reply). r .sent) j; hearer-role = o .role-is; hearer-place = q; hearer-count = m; hearer-case = o .case-is; hearer-plus = o .plus-is; hearer-owed = o .owed-is; none-from-hearer = x .from-hearer-is; none-from-sender = x .from-sender-is })) (known (ap (λ (r : Reply). r .station .other) j) (ap (λ (r : Reply). r .station .own) j)) (sym (o .own-is))
 
   -- what was heard of the first word: it, or what says nothing
   first-is : (w : ℕ) (f : First) → c .burst .0 ≡ w → firstOf w ≡ f → FirstIs f (firstOf (b .0))

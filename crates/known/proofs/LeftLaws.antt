@@ -28,21 +28,20 @@ use Rattle.mode_a.specs.declared.Place.the-variants.{Sending, Turning, Opening,
 use Rattle.mode_a.specs.declared.Offer.{Offer}
 use Rattle.mode_a.specs.declared.Station.{Station}
 use Rattle.mode_a.specs.declared.Doing.{Doing}
-use Rattle.mode_a.specs.declared.Doing.the-variants.{Repeats, Goes, Takes, Receives, Opens, Accepts, Rests, Answers, Listens, Reaches, Answers3, Bars, Ends, Turns, Meets, Again}
+use Rattle.mode_a.specs.declared.Doing.the-variants.{Repeats, Goes, Takes, Receives, Opens, Accepts, Rests, Answers, Listens, Reaches, Answers3, Bars, Ends, Turns, Meets, Again, Yields}
 use Rattle.mode_a.specs.declared.Reply.{Reply}
 use Rattle.mode_a.specs.Identification.{nothing-told, toldIn}
 use Rattle.mode_a.specs.Station.{single, silence, βαβ, ααα, RQ×3, other, asksFor, resting}
 use Rattle.mode_a.specs.Heard.{Heard, mayHold, isBlock, isWords, callOf, call3Of, heardOf}
 use Rattle.mode_a.specs.Over.{listenedAll}
 use Rattle.mode_a.specs.Rows.{rowOf, requests, allHeard, heardThen}
-use Rattle.mode_a.specs.Step.{isOver, soundPlace, done}
+use Rattle.mode_a.specs.Step.{soundPlace, done}
 use Rattle.runs.specs.Places.{isStandBy}
-use Rattle.runs.specs.Runs.{InOrder}
 use Rattle.runs.proofs.RowLaws.{by-sending, by-turning, by-opening, by-ending, by-receiving, by-asking, by-standing}
 use Rattle.runs.proofs.StepLaws.{Answers as Answered, answers, held-block, by-repeat, by-again, by-take-block, by-accept, by-listen, standby-listens}
 use Rattle.circuit.specs.Circuit.{Event, heard, Harmless, Circuit, said, placesCall, answeredBy, goesOn, next}
 use Rattle.circuit.proofs.DamageLaws.{all-three, Mangled, mangled, no-words, whole-told}
-use Rattle.circuit.proofs.ReplyLaws.{ααα-signals, RQ×3-signals, single-no-call, both-none, no-call, no-call3}
+use Rattle.circuit.proofs.ReplyLaws.{ααα-signals, RQ×3-signals, single-no-call, Fine, both-none, no-call, no-call3}
 use Rattle.circuit.proofs.CallStepLaws.{all-none, asked}
 use Rattle.circuit.proofs.RunLaws.{quiet}
 use Rattle.known.proofs.BlockLaws.{Late, ends-otherwise, all-or-none, late-heard}
@@ -128,11 +127,12 @@ Leads t (Ends i) = ⊥
 Leads t (Turns i) = ⊥
 Leads t (Meets i) = ⊥
 Leads t (Again p w) = ⊥
+Leads t (Yields n) = Unit {0}
 
 row-leads : (own : Own) (r : Role) (x : Place) (h : Heard) → isApart x ≡ true → soundPlace x ≡ true → heardThen Succession.None (h .call3) ≡ Succession.None → Leads (isStandBy x) (rowOf own r x h)
 unfolding Leads
 row-leads own r (Sending b) h n s k =
-    by-sending (Leads false) b (h .first) (λ c. block-late (b .block) (sym (held-block (b .block)) ∙ s)) (λ c. tt) (λ c. (refl, βαβ-late)) (λ c. RQ×3-late)
+    by-sending (Leads false) b (h .first) (λ c. block-late (b .block) (sym (held-block (b .block)) ∙ s)) (λ c. tt) (λ c. tt) (λ c. RQ×3-late)
 row-leads own r (Turning m) h n s k = by-turning (Leads false) r m h tt βαβ-late RQ×3-late
 row-leads own r Opening h n s k = by-opening (Leads false) r (h .first) (λ n. tt) (single-late 0) (requests-late r)
 row-leads own r (Ending e) h n s k = by-ending (Leads false) e (h .first) (single-late 0) (λ i. (refl, ααα-late))
@@ -157,15 +157,15 @@ row-leads own r (Answering g) h n s k = absurd (true≢false (sym n))
 abbrev Led : Reply → Type 0
 Led r = (isApart (r .station .place) ≡ true) × Late (r .sent)
 
-done-leads : (s : Station) (b : Words) (o : Offer) (d : Doing) (t : Bool) → isApart (s .place) ≡ true → InOrder (s .own) o → Leads t d → (t ≡ true → done s b o d .taken ≡ false) → Led (done s b o d)
+done-leads : (s : Station) (b : Words) (o : Offer) (d : Doing) (t : Bool) → isApart (s .place) ≡ true → Fine s o → Leads t d → (t ≡ true → done s b o d .taken ≡ false) → Led (done s b o d)
 unfolding done Leads
 done-leads s b o (Repeats w) t n i l y = by-repeat Led s w (λ e. (refl, single-late 0)) (λ e. (n, l))
 done-leads s b o (Goes p w) t n i l y = l
-done-leads s b o (Takes m) t n i l y = by-take-block Led s m (s .own) o i (λ w t g. (refl, block-late w g)) (refl, ααα-late)
+done-leads s b o (Takes m) t n i l y = by-take-block Led s m (s .own) o (i .0) (i .1) (λ u w t g. (refl, block-late w g)) (refl, ααα-late)
 done-leads s b o (Receives m) t n i l y = (refl, asks-late m)
 done-leads s b o Opens t n i l y = (refl, requests-late (s .role))
 done-leads s b o (Accepts m) t n i l y =
-    by-accept Led s m b (isOver o) (listenedAll (s .case) (s .plus) b) (λ u. (refl, single-late _)) (refl, asks-late (other m))
+    by-accept Led s m b o (listenedAll (s .case) (s .plus) b) (λ w u. (refl, single-late _)) (refl, asks-late (other m))
 done-leads s b o (Rests m w) t n i l y = (refl, l)
 done-leads s b o Answers t n i l y = (refl, asks-late One)
 done-leads s b o (Listens w) t n i l y =
@@ -177,6 +177,7 @@ done-leads s b o (Ends j) t n i l y = absurd l
 done-leads s b o (Turns j) t n i l y = absurd l
 done-leads s b o (Meets j) t n i l y = absurd l
 done-leads s b o (Again p w) t n i l y = absurd l
+done-leads s b o (Yields m) t n i l y = (refl, βαβ-late)
 
 pub apart-next : (c : Circuit) (e : Event) → Harmless e → placesCall c e ≡ false → Apart c → Apart (next c e)
 unfolding heardOf
@@ -187,7 +188,7 @@ apart-next c e h n y = go (said c e) refl
         let b = heard e (c .burst) in
         let z = answers (c .hearer) b (e .offer) r i in
         let k = late-heard (c .hearer .own .seven) (c .burst) b (y .burst-late) (mangled e (c .burst) h) in
-        let l = done-leads (c .hearer) b (e .offer) _ (isStandBy (c .hearer .place)) (y .hearer-apart) (z .is-fine) (row-leads (c .hearer .own) (c .hearer .role) (c .hearer .place) (heardOf (c .hearer .own) b) (y .hearer-apart) (z .is-sound) k) (λ s. ap (λ (r : Reply). r .taken) (sym (z .is-done)) ∙ quiet c e r i n s) in
+        let l = done-leads (c .hearer) b (e .offer) _ (isStandBy (c .hearer .place)) (y .hearer-apart) (z .is-passed, z .is-fine) (row-leads (c .hearer .own) (c .hearer .role) (c .hearer .place) (heardOf (c .hearer .own) b) (y .hearer-apart) (z .is-sound) k) (λ s. ap (λ (r : Reply). r .taken) (sym (z .is-done)) ∙ quiet c e r i n s) in
         record { hearer-apart = y .sender-apart; sender-apart = rw (z .is-done) (l .0); burst-late = rw (z .is-done) (l .1) }
     go (refused m v) i = y
 

@@ -24,6 +24,7 @@ use Rattle.mode_a.specs.declared.Peer.the-variants.{Known}
 use Rattle.mode_a.specs.declared.Place.{Place}
 use Rattle.mode_a.specs.declared.Place.the-variants.{Receiving, Asking, StandBy, Lost, Calling3, Identifying, Answering}
 use Rattle.mode_a.specs.declared.Offer.{Offer}
+use Rattle.mode_a.specs.declared.Owed.{Owed}
 use Rattle.mode_a.specs.declared.Station.{Station}
 use Rattle.mode_a.specs.declared.Reply.{Reply}
 use Rattle.mode_a.specs.Identification.{identityBlock, with-1, with-2}
@@ -31,7 +32,8 @@ use Rattle.mode_a.specs.Station.{single, silence, asksFor, marks, noSeven}
 use Rattle.mode_a.specs.Heard.{firstOf}
 use Rattle.mode_a.specs.Rows.{isLast}
 use Rattle.runs.specs.Runs.{taking, nextStage}
-use Rattle.circuit.specs.Circuit.{nothingYet, Circuit, takenIf, confirmedBy, acceptedBy, answeredBy}
+use Rattle.runs.specs.Taken.{takenIf}
+use Rattle.circuit.specs.Circuit.{nothingYet, Circuit, confirmedBy, acceptedBy, answeredBy}
 use Rattle.circuit.proofs.CallStepLaws.{asked}
 use Rattle.known.proofs.BlockLaws.{CallBlock, SameSo}
 
@@ -49,6 +51,7 @@ pub record Caller (i y : Seven) (u : Telling) (s : Station) : Type 0 where
   pub role-is : s .role ≡ Master
   pub case-is : s .case ≡ Letters
   pub plus-is : s .plus ≡ false
+  pub owed-is : s .owed ≡ Owed.Nothing
   pub own-is : s .own .seven ≡ y
 
 -- what it has on the way
@@ -93,6 +96,7 @@ pub record Slaved (i : Seven) (s : Station) : Type 0 where
   pub role-is : s .role ≡ Slave
   pub case-is : s .case ≡ Letters
   pub plus-is : s .plus ≡ false
+  pub owed-is : s .owed ≡ Owed.Nothing
   pub own-is : s .own .seven ≡ i
 
 -- what Stand-by has heard, with the own identity x
@@ -120,7 +124,7 @@ pub data InCall (i y : Seven) (c : Circuit) : Type 0 where
 -- a step that carries nothing
 abbrev pub Carries : Station → Words → Offer → Reply → Type 0
 Carries s b o r =
-    (takenIf (taking (s .place) (firstOf (b .0))) o r ≡ []) × (confirmedBy s b ≡ []) × (acceptedBy s b ≡ []) × (r .printed ≡ silence)
+    (takenIf (taking (s .place) (firstOf (b .0))) s o r ≡ []) × (confirmedBy s b ≡ []) × (acceptedBy s b ≡ []) × (r .printed ≡ silence)
 
 pub still-none : (c : Circuit) (o : Offer) (b : Words) (r : Reply) → NothingCarried c → Carries (c .hearer) b o r → NothingCarried (answeredBy c o b r)
 still-none c o b r n (t, f, a, p) =

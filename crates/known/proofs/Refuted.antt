@@ -20,6 +20,7 @@ use Rattle.mode_a.specs.declared.Role.the-variants.{Master, Slave}
 use Rattle.mode_a.specs.declared.Mark.{Mark}
 use Rattle.mode_a.specs.declared.Succession.{Succession}
 use Rattle.mode_a.specs.declared.Stage.{Stage}
+use Rattle.mode_a.specs.declared.Owed.{Owed}
 use Rattle.mode_a.specs.declared.Peer.{Peer}
 use Rattle.mode_a.specs.declared.Peer.the-variants.{Nobody, Four, Known, Barred}
 use Rattle.mode_a.specs.declared.Place.the-variants.{StandBy, Identifying}
@@ -28,6 +29,7 @@ use Rattle.mode_a.specs.Identification.{toldIn}
 use Rattle.mode_a.specs.Station.{single, freshAt}
 use Rattle.mode_a.specs.Heard.{furtherOf, firstOf, mayHold, isBlock, isWords, callOf, call3Of, heardOf}
 use Rattle.mode_a.specs.Over.{listened}
+use Rattle.mode_a.specs.Answerback.{codeSignals, holdsNeither, passes, owedExists}
 use Rattle.mode_a.specs.Step.{called3, begun, unidentified, trafficIn, done, sound, stepping}
 use Rattle.runs.specs.Places.{isIdentifying, isAnswering}
 use Rattle.runs.specs.Runs.{start}
@@ -75,7 +77,7 @@ Mistaken c =
     (toTraffic (c .sender .place) ≡ true) × (c .sender .other ≡ Known KQVZRSE) × (c .hearer .own .seven ≡ QKVZRSE)
 
 mistaken : Mistaken (after another-answers (run-of start told))
-unfolding after through stepping sound done firstNot isIdentity numberOf signalOf checkSum sameSeven isCallable isCallable7 nextBlock3 isBlock mayHold trafficOf meaningOf heardOf callOf call3Of toldIn furtherOf firstOf isWords listened trafficIn
+unfolding after through stepping sound owedExists passes codeSignals holdsNeither done firstNot isIdentity numberOf signalOf checkSum sameSeven isCallable isCallable7 nextBlock3 isBlock mayHold trafficOf meaningOf heardOf callOf call3Of toldIn furtherOf firstOf isWords listened trafficIn
 mistaken = subst Mistaken (sym (computed another-answers start told)) (refl, refl, refl)
 
 pub no-sums-for-who : SumsTell → ⊥
@@ -113,6 +115,7 @@ placed-to i own x =
         plus = false;
         own = owning own;
         other = Nobody;
+        owed = Owed.Nothing;
       };
       sender = called3 (freshAt (owning PEARDBY)) i .station;
       burst = called3 (freshAt (owning PEARDBY)) i .sent;
@@ -140,7 +143,7 @@ WrongEnd c =
     (toTraffic (c .sender .place) ≡ true) × (c .sender .other ≡ Known KQVZRSE) × (c .hearer .own .seven ≡ KQVZRES)
 
 wrong-end : WrongEnd (after half-heard (run-of start told-at-once))
-unfolding after through stepping sound done firstNot isIdentity numberOf signalOf checkSum sameSeven isCallable isCallable7 nextBlock3 isBlock mayHold trafficOf meaningOf heardOf callOf call3Of toldIn furtherOf firstOf isWords listened trafficIn
+unfolding after through stepping sound owedExists passes codeSignals holdsNeither done firstNot isIdentity numberOf signalOf checkSum sameSeven isCallable isCallable7 nextBlock3 isBlock mayHold trafficOf meaningOf heardOf callOf call3Of toldIn furtherOf firstOf isWords listened trafficIn
 wrong-end = subst WrongEnd (sym (computed half-heard start told-at-once)) (refl, refl, refl)
 
 -- the sixth letter of who is known

@@ -20,9 +20,10 @@ use Rattle.mode_a.specs.declared.Peer.the-variants.{Nobody, Known}
 use Rattle.mode_a.specs.declared.Offer.{Offer}
 use Rattle.mode_a.specs.Calls.{isCallable, nextBlock3}
 use Rattle.mode_a.specs.Identification.{toldIn}
-use Rattle.mode_a.specs.Station.{silence, freshAt}
+use Rattle.mode_a.specs.Station.{silence, noCode, freshAt}
 use Rattle.mode_a.specs.Heard.{furtherOf, firstOf, mayHold, isBlock, isWords, callOf, call3Of, heardOf}
 use Rattle.mode_a.specs.Over.{listened}
+use Rattle.mode_a.specs.Answerback.{codeSignals, holdsNeither, passes, owedExists}
 use Rattle.mode_a.specs.Step.{trafficIn, done, sound, stepping}
 use Rattle.runs.specs.Runs.{start}
 use Rattle.circuit.specs.Circuit.{Event, nothingYet, Circuit, next, after}
@@ -41,7 +42,7 @@ abbrev first-four : Seven → Identity
 first-four i = record { 0 = i .0; 1 = i .1; 2 = i .2; 3 = i .3 }
 
 abbrev pub owning : Seven → Own
-owning i = record { four = first-four i; seven = i }
+owning i = record { four = first-four i; seven = i; code = noCode }
 
 abbrev both-stand-by : Circuit
 both-stand-by =
@@ -51,7 +52,7 @@ abbrev pub call-placed : Circuit
 call-placed = next both-stand-by (clear (Offer.Call3 KQVZRSE))
 
 pub is-placed : Call3Placed KQVZRSE call-placed
-unfolding stepping sound done firstNot isIdentity isCallable isCallable7 isBlock mayHold trafficOf meaningOf heardOf callOf call3Of toldIn furtherOf firstOf isWords
+unfolding stepping sound owedExists passes codeSignals holdsNeither done firstNot isIdentity isCallable isCallable7 isBlock mayHold trafficOf meaningOf heardOf callOf call3Of toldIn furtherOf firstOf isWords
 is-placed = record {
   caller = freshAt (owning PEARDBY);
   sender-is = refl;
@@ -79,9 +80,9 @@ abbrev Completed : Circuit → Type 0
 Completed c = CallCompleted c × KnownToBoth c × (c .sender .own .seven ≡ PEARDBY) × (c .hearer .own .seven ≡ KQVZRSE)
 
 pub is-known : Completed (after call-placed (run-of start to-the-text))
-unfolding after through stepping sound done firstNot isIdentity numberOf signalOf checkSum sameSeven isCallable isCallable7 nextBlock3 isBlock mayHold trafficOf meaningOf heardOf callOf call3Of toldIn furtherOf firstOf isWords listened trafficIn
+unfolding after through stepping sound owedExists passes codeSignals holdsNeither done firstNot isIdentity numberOf signalOf checkSum sameSeven isCallable isCallable7 nextBlock3 isBlock mayHold trafficOf meaningOf heardOf callOf call3Of toldIn furtherOf firstOf isWords listened trafficIn
 is-known =
-    subst Completed (sym (computed call-placed start to-the-text)) (record { sender-role = refl; sender-count = refl; sender-case = refl; sender-plus = refl; begins = with-block refl refl refl refl; hearer-role = refl; hearer-place = refl; hearer-count = refl; hearer-case = refl; hearer-plus = refl; none-from-hearer = refl }, record { sender-knows = refl; hearer-knows = refl }, refl, refl)
+    subst Completed (sym (computed call-placed start to-the-text)) (record { sender-role = refl; sender-count = refl; sender-case = refl; sender-plus = refl; begins = with-block refl refl refl refl; sender-owed = refl; hearer-role = refl; hearer-place = refl; hearer-count = refl; hearer-case = refl; hearer-plus = refl; hearer-owed = refl; none-from-hearer = refl }, record { sender-knows = refl; hearer-knows = refl }, refl, refl)
 
 -- the station called offers an over as it hears RQ RQ RQ: it says CS3, and the caller sends βαβ
 abbrev to-the-turn : List Event
@@ -91,9 +92,9 @@ abbrev Turned : Circuit → Type 0
 Turned c = CallTurned c × KnownToBoth c
 
 pub is-turned : Turned (after call-placed (run-of start to-the-turn))
-unfolding after through stepping sound done firstNot isIdentity numberOf signalOf checkSum sameSeven isCallable isCallable7 nextBlock3 isBlock mayHold trafficOf meaningOf heardOf callOf call3Of toldIn furtherOf firstOf isWords listened trafficIn
+unfolding after through stepping sound owedExists passes codeSignals holdsNeither done firstNot isIdentity numberOf signalOf checkSum sameSeven isCallable isCallable7 nextBlock3 isBlock mayHold trafficOf meaningOf heardOf callOf call3Of toldIn furtherOf firstOf isWords listened trafficIn
 is-turned =
-    subst Turned (sym (computed call-placed start to-the-turn)) (record { sender-role = refl; sender-place = refl; sender-count = refl; sender-case = refl; sender-plus = refl; burst-is = refl; hearer-role = refl; hearer-place = refl; hearer-count = refl; hearer-case = refl; hearer-plus = refl; none-from-hearer = refl; none-from-sender = refl }, record { sender-knows = refl; hearer-knows = refl })
+    subst Turned (sym (computed call-placed start to-the-turn)) (record { sender-role = refl; sender-place = refl; sender-count = refl; sender-case = refl; sender-plus = refl; sender-owed = refl; burst-is = refl; hearer-role = refl; hearer-place = refl; hearer-count = refl; hearer-case = refl; hearer-plus = refl; hearer-owed = refl; none-from-hearer = refl; none-from-sender = refl }, record { sender-knows = refl; hearer-knows = refl })
 
 -- Each burst is damaged once: the three call blocks, and CS4; each identification block, and its check-sum; RQ RQ RQ, and CS1, so that the
 -- station called has repeated once when the call is completed.
@@ -112,9 +113,9 @@ abbrev AtLast : Circuit → Type 0
 AtLast c = Completed c × (c .hearer .count ≡ 1)
 
 pub known-at-last : AtLast (after call-placed (run-of start damaged))
-unfolding after through stepping sound done firstNot isIdentity numberOf signalOf checkSum sameSeven isCallable isCallable7 nextBlock3 isBlock mayHold trafficOf meaningOf heardOf callOf call3Of toldIn furtherOf firstOf isWords listened trafficIn
+unfolding after through stepping sound owedExists passes codeSignals holdsNeither done firstNot isIdentity numberOf signalOf checkSum sameSeven isCallable isCallable7 nextBlock3 isBlock mayHold trafficOf meaningOf heardOf callOf call3Of toldIn furtherOf firstOf isWords listened trafficIn
 known-at-last =
-    subst AtLast (sym (computed call-placed start damaged)) ((record { sender-role = refl; sender-count = refl; sender-case = refl; sender-plus = refl; begins = with-block refl refl refl refl; hearer-role = refl; hearer-place = refl; hearer-count = refl; hearer-case = refl; hearer-plus = refl; none-from-hearer = refl }, record { sender-knows = refl; hearer-knows = refl }, refl, refl), refl)
+    subst AtLast (sym (computed call-placed start damaged)) ((record { sender-role = refl; sender-count = refl; sender-case = refl; sender-plus = refl; begins = with-block refl refl refl refl; sender-owed = refl; hearer-role = refl; hearer-place = refl; hearer-count = refl; hearer-case = refl; hearer-plus = refl; hearer-owed = refl; none-from-hearer = refl }, record { sender-knows = refl; hearer-knows = refl }, refl, refl), refl)
 
 -- behind RQ RQ RQ the station called knows who calls; the caller knows only where it hears the answer
 abbrev pub met : List Event
@@ -125,7 +126,7 @@ SlaveFirst c =
     (c .sender .other ≡ Known PEARDBY) × (c .hearer .own .seven ≡ PEARDBY) × (c .hearer .other ≡ Nobody) × (c .sender .own .seven ≡ KQVZRSE)
 
 pub slave-first : SlaveFirst (after call-placed (run-of start met))
-unfolding after through stepping sound done firstNot isIdentity numberOf signalOf checkSum sameSeven isCallable isCallable7 nextBlock3 isBlock mayHold trafficOf meaningOf heardOf callOf call3Of toldIn furtherOf firstOf isWords listened trafficIn
+unfolding after through stepping sound owedExists passes codeSignals holdsNeither done firstNot isIdentity numberOf signalOf checkSum sameSeven isCallable isCallable7 nextBlock3 isBlock mayHold trafficOf meaningOf heardOf callOf call3Of toldIn furtherOf firstOf isWords listened trafficIn
 slave-first = subst SlaveFirst (sym (computed call-placed start met)) (refl, refl, refl, refl)
 
 -- the theorem of such a run: nothing is printed until then
@@ -140,6 +141,6 @@ abbrev Goes-on : Circuit → Type 0
 Goes-on c = (identifies (c .hearer .place) || identifies (c .sender .place)) ≡ true
 
 pub of-that-run : Silent (after call-placed (run-of start answered-by))
-unfolding after through stepping sound done firstNot isIdentity numberOf signalOf checkSum sameSeven isCallable isCallable7 nextBlock3 isBlock mayHold trafficOf meaningOf heardOf callOf call3Of toldIn furtherOf firstOf isWords listened trafficIn
+unfolding after through stepping sound owedExists passes codeSignals holdsNeither done firstNot isIdentity numberOf signalOf checkSum sameSeven isCallable isCallable7 nextBlock3 isBlock mayHold trafficOf meaningOf heardOf callOf call3Of toldIn furtherOf firstOf isWords listened trafficIn
 of-that-run =
     nothing-printed KQVZRSE call-placed is-placed (run-of start answered-by) (is-ordinary .harmless) (is-ordinary .no-call) (subst Goes-on (sym (computed call-placed start answered-by)) refl)

@@ -85,7 +85,7 @@ phase-next i y ci cy c e h q (in-call x) = go (said c e) refl x
 -- Every run from a call that was placed.
 calls-of : (i : Seven) (c : Circuit) (y : Call3Placed i c) → InCall i (y .caller .own .seven) c
 calls-of i c y =
-    hears-caller calls (standing (y .waits) (y .hearer-at) (ap (λ (m : Mark). marks m Two) (y .none-heard)) (subst (SameSo i (c .hearer .own .seven)) (sym (y .none-heard3)) tt)) (rw (y .sender-is) (record { at = at-calling 1 refl; role-is = refl; case-is = refl; plus-is = refl; own-is = refl })) (rw (y .burst-is) (call-block first)) (record { from-hearer-is = y .none-from-hearer; from-sender-is = y .none-from-sender })
+    hears-caller calls (standing (y .waits) (y .hearer-at) (ap (λ (m : Mark). marks m Two) (y .none-heard)) (subst (SameSo i (c .hearer .own .seven)) (sym (y .none-heard3)) tt)) (rw (y .sender-is) (record { at = at-calling 1 refl; role-is = refl; case-is = refl; plus-is = refl; owed-is = refl; own-is = refl })) (rw (y .burst-is) (call-block first)) (record { from-hearer-is = y .none-from-hearer; from-sender-is = y .none-from-sender })
 
 phase-run : (i : Seven) (c : Circuit) (y : Call3Placed i c) (run : Run) → AllHarmless run → NoCallPlaced c run → Phase i (y .caller .own .seven) (after c run)
 unfolding after AllHarmless NoCallPlaced

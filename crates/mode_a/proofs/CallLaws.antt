@@ -15,7 +15,7 @@ use Rattle.identity.specs.Sums.{signalsOf7}
 use Rattle.mode_a.specs.declared.Identity.{Identity}
 use Rattle.mode_a.specs.declared.Stood.{Stood}
 use Rattle.mode_a.specs.Calls.{signalsOf}
-use Rattle.mode_a.specs.Station.{noSeven, freshAt, standing, standingBoth, StandsBy, StandsByBoth}
+use Rattle.mode_a.specs.Station.{noSeven, freshAt, standing, standingBoth, StandsBy, StandsByBoth, noCode}
 
 -- behind four signals that are all of table 3a the count goes on
 pub outside-both : (i : Identity) (r : List ℕ) → firstNot isIdentity (signalsOf i ++ r) ≡ (if ltb (firstNot isIdentity (signalsOf i)) 4 then firstNot isIdentity (signalsOf i) else 4 + firstNot isIdentity r)
@@ -35,7 +35,7 @@ module _ (i : Identity) (n : ℕ) (e : n ≡ firstNot isIdentity (signalsOf i)) 
   unfolding standing
   outside h = rw (lt-ltb (firstNot isIdentity (signalsOf i)) 4 (rw e at h), e)
 
-  pub stands : 4 ≤ n → StandsBy i (Stood.By (freshAt (record { four = i; seven = noSeven })))
+  pub stands : 4 ≤ n → StandsBy i (Stood.By (freshAt (record { four = i; seven = noSeven; code = noCode })))
   unfolding standing
   stands h = rw (le-ltb (firstNot isIdentity (signalsOf i)) 4 (rw e at h))
 
@@ -56,6 +56,6 @@ module _ (i : Identity) (j : Seven) (n : ℕ) (e : n ≡ firstNot isIdentity (si
     unfolding standingBoth
     outside-seven l = rw (second, lt-ltb (4 + m) 11 (omega (arith, l)))
 
-    pub stands-both : 7 ≤ m → StandsByBoth i j (Stood.By (freshAt (record { four = i; seven = j })))
+    pub stands-both : 7 ≤ m → StandsByBoth i j (Stood.By (freshAt (record { four = i; seven = j; code = noCode })))
     unfolding standingBoth
     stands-both l = rw (second, le-ltb (4 + m) 11 (omega (arith, l)))

@@ -51,19 +51,21 @@ use Rattle.mode_a.specs.declared.Stepped.{Stepped}
 use Rattle.mode_a.specs.declared.Peer.the-variants.{Nobody}
 use Rattle.mode_a.specs.declared.Mark.{Mark}
 use Rattle.mode_a.specs.declared.Identity.{Identity}
+use Rattle.mode_a.specs.declared.Owed.{Owed}
 use Rattle.mode_a.specs.declared.Stood.{Stood}
 use Rattle.identity.specs.declared.Seven.{Seven}
 use Rattle.identity.specs.Table3.{isIdentity}
 use Rattle.mode_a.specs.Calls.{isCallable}
-use Rattle.mode_a.specs.Station.{standing, standingBoth, StandsBy, StandsByBoth, words, single, silence, RQ×3, asksFor, noIdentity, resting, freshMaster, freshSlave, firstBurst}
+use Rattle.mode_a.specs.Station.{standing, standingBoth, StandsBy, StandsByBoth, words, single, silence, RQ×3, asksFor, noCode, noIdentity, resting, freshMaster, freshSlave, firstBurst}
 use Rattle.identity.specs.Sums.{isCallable7}
 use Rattle.mode_a.specs.Heard.{call3Of, firstOf, mayHold, isBlock, isWords, callOf, heardOf}
 use Rattle.mode_a.specs.Over.{listened}
+use Rattle.mode_a.specs.Answerback.{codeSignals, holdsNeither, passes, owedExists}
 use Rattle.mode_a.specs.Step.{trafficIn, done, sound, stepping, saidStepped, Steps}
 
 -- a slave at a place, with a count
 abbrev slaveAt : Place → ℕ → Station
-slaveAt p k = record { role = Slave; place = p; count = k; case = Letters; plus = false; own = noIdentity; other = Nobody }
+slaveAt p k = record { role = Slave; place = p; count = k; case = Letters; plus = false; own = noIdentity; other = Nobody; owed = Owed.Nothing }
 
 -- T E A, and a burst with a damaged word
 abbrev tea : Words
@@ -102,41 +104,41 @@ apart e = let z : _≡_ {A = ℕ} 0 1 = cc in omega arith
 
 -- whatever satisfies the promise there is no refusal, of any number
 pub no-refusing-station : (r : Stepped) → Steps freshSlave tea Offer.Nothing r → numberIn (saidStepped r) ≡ 0
-unfolding stepping sound heardOf firstOf mayHold trafficOf meaningOf isBlock isWords firstNot done listened trafficIn
+unfolding stepping sound owedExists passes codeSignals holdsNeither heardOf firstOf mayHold trafficOf meaningOf isBlock isWords firstNot done listened trafficIn
 no-refusing-station r p = ap numberIn (p .0)
 
 pub no-constant-rq : (r : Reply) → r .sent ≡ RQ×3 → Steps freshSlave tea Offer.Nothing (Stepped.Done r) → ⊥
-unfolding stepping sound heardOf firstOf mayHold trafficOf meaningOf isBlock isWords firstNot done listened trafficIn
+unfolding stepping sound owedExists passes codeSignals holdsNeither heardOf firstOf mayHold trafficOf meaningOf isBlock isWords firstNot done listened trafficIn
 no-constant-rq r e p = let z : _≡_ {A = ℕ} 102 106 = sent-is freshSlave tea Offer.Nothing r p RQ×3 e in omega arith
 
 -- the second of two blocks: CS1 is due, and not CS2 once more
 pub no-first-step-again : (r : Reply) → r .sent ≡ asksFor Two → Steps (slaveAt (Receiving Two) 0) tea Offer.Nothing (Stepped.Done r) → ⊥
-unfolding stepping sound heardOf firstOf mayHold trafficOf meaningOf isBlock isWords firstNot done listened trafficIn
+unfolding stepping sound owedExists passes codeSignals holdsNeither heardOf firstOf mayHold trafficOf meaningOf isBlock isWords firstNot done listened trafficIn
 no-first-step-again r e p =
     let z : _≡_ {A = ℕ} 106 101 = sent-is (slaveAt (Receiving Two) 0) tea Offer.Nothing r p (asksFor Two) e in omega arith
 
 -- the block that was heard before comes again under the other number, and is printed again
 pub no-repeat-by-content : (r : Reply) → r .printed ≡ silence → Steps (slaveAt (Receiving Two) 0) tea Offer.Nothing (Stepped.Done r) → ⊥
-unfolding stepping sound heardOf firstOf mayHold trafficOf meaningOf isBlock isWords firstNot done listened trafficIn
+unfolding stepping sound owedExists passes codeSignals holdsNeither heardOf firstOf mayHold trafficOf meaningOf isBlock isWords firstNot done listened trafficIn
 no-repeat-by-content r e p =
     let z : _≡_ {A = ℕ} 0 116 = printed-is (slaveAt (Receiving Two) 0) tea Offer.Nothing r p silence e in omega arith
 
 pub no-over-unaccepted : (r : Reply) → r .taken ≡ true → Steps (slaveAt (Receiving One) 0) damaged Offer.Over (Stepped.Done r) → ⊥
-unfolding stepping sound heardOf firstOf mayHold trafficOf meaningOf isBlock isWords firstNot done listened trafficIn
+unfolding stepping sound owedExists passes codeSignals holdsNeither heardOf firstOf mayHold trafficOf meaningOf isBlock isWords firstNot done listened trafficIn
 no-over-unaccepted r e p = apart (sym e ∙ ap takenIn (p .0))
 
 pub no-cs3-unaccepted : (r : Reply) → r .sent ≡ single cs3 → Steps (slaveAt (Receiving One) 0) damaged Offer.Over (Stepped.Done r) → ⊥
-unfolding stepping sound heardOf firstOf mayHold trafficOf meaningOf isBlock isWords firstNot done listened trafficIn
+unfolding stepping sound owedExists passes codeSignals holdsNeither heardOf firstOf mayHold trafficOf meaningOf isBlock isWords firstNot done listened trafficIn
 no-cs3-unaccepted r e p =
     let z : _≡_ {A = ℕ} 89 101 = sent-is (slaveAt (Receiving One) 0) damaged Offer.Over r p (single cs3) e in omega arith
 
 pub no-block-for-rq : (r : Reply) → r .sent ≡ tea → Steps (slaveAt (Sending (record { number = One; block = tea })) 0) silence Offer.Nothing (Stepped.Done r) → ⊥
-unfolding stepping sound heardOf firstOf mayHold trafficOf meaningOf isBlock isWords firstNot done listened trafficIn
+unfolding stepping sound owedExists passes codeSignals holdsNeither heardOf firstOf mayHold trafficOf meaningOf isBlock isWords firstNot done listened trafficIn
 no-block-for-rq r e p =
     let z : _≡_ {A = ℕ} 116 102 = sent-is (slaveAt (Sending (record { number = One; block = tea })) 0) silence Offer.Nothing r p tea e in omega arith
 
 pub no-own-number-at-turning : (r : Reply) → r .sent ≡ asksFor One → Steps (slaveAt (Turning One) 0) RQ×3 Offer.Nothing (Stepped.Done r) → ⊥
-unfolding stepping sound heardOf firstOf mayHold trafficOf meaningOf isBlock isWords firstNot done listened trafficIn
+unfolding stepping sound owedExists passes codeSignals holdsNeither heardOf firstOf mayHold trafficOf meaningOf isBlock isWords firstNot done listened trafficIn
 no-own-number-at-turning r e p =
     let z : _≡_ {A = ℕ} 101 106 = sent-is (slaveAt (Turning One) 0) RQ×3 Offer.Nothing r p (asksFor One) e in omega arith
 
@@ -146,7 +148,7 @@ no-order-3-4 s p = let z : _≡_ {A = ℕ} 3 4 = ap numberIn (p .0) in omega ari
 
 -- at Stand-by, where no offer is taken
 pub no-offer-unjudged : (r : Reply) → Steps (slaveAt (resting 0) 0) silence (Offer.Text (words 116 102 71)) (Stepped.Done r) → ⊥
-unfolding stepping sound mayHold trafficOf meaningOf firstNot
+unfolding stepping sound owedExists passes codeSignals holdsNeither mayHold trafficOf meaningOf firstNot
 no-offer-unjudged r p = let z : _≡_ {A = ℕ} 0 3 = ap numberIn (p .0) in omega arith
 
 -- V X Q Z, the same with N for V, and with W for Z
@@ -170,11 +172,11 @@ no-call-unjudged r p = let z : _≡_ {A = ℕ} 0 8 = ap numberIn (p .0) in omega
 
 -- Sending that hears the other number's control signal: βββ goes out, and the call stays with the operator
 pub no-call-taken-elsewhere : (r : Reply) → r .taken ≡ true → Steps (slaveAt (Sending (record { number = One; block = tea })) 0) (single cs2) (Offer.Call vxqz) (Stepped.Done r) → ⊥
-unfolding stepping sound heardOf callOf call3Of isIdentity isCallable isCallable7 firstOf mayHold trafficOf meaningOf isBlock isWords firstNot done
+unfolding stepping sound owedExists passes codeSignals holdsNeither heardOf callOf call3Of isIdentity isCallable isCallable7 firstOf mayHold trafficOf meaningOf isBlock isWords firstNot done
 no-call-taken-elsewhere r e p = apart (sym e ∙ ap takenIn (p .0))
 
 pub no-call-that-prints : (r : Reply) → r .printed ≡ words 60 0 0 → Steps (slaveAt (resting 0) 0) silence (Offer.Call vxqz) (Stepped.Done r) → ⊥
-unfolding stepping sound heardOf callOf call3Of isIdentity isCallable isCallable7 firstOf mayHold trafficOf meaningOf isBlock isWords firstNot done
+unfolding stepping sound owedExists passes codeSignals holdsNeither heardOf callOf call3Of isIdentity isCallable isCallable7 firstOf mayHold trafficOf meaningOf isBlock isWords firstNot done
 no-call-that-prints r e p =
     let z : _≡_ {A = ℕ} 60 0 = printed-is (slaveAt (resting 0) 0) silence (Offer.Call vxqz) r p (words 60 0 0) e in omega arith
 
@@ -197,7 +199,7 @@ placeIn (answered r) = r .station .place
 placeIn (refused n v) = Opening
 
 pub no-lost-caller : (r : Reply) → r .station .place ≡ Lost → Steps (slaveAt (Calling (record { to = vxqz; sent = 128; last = Mark.None })) 0) silence Offer.Nothing (Stepped.Done r) → ⊥
-unfolding stepping sound heardOf callOf call3Of isIdentity isCallable isCallable7 firstOf mayHold trafficOf meaningOf isBlock isWords firstNot done
+unfolding stepping sound owedExists passes codeSignals holdsNeither heardOf callOf call3Of isIdentity isCallable isCallable7 firstOf mayHold trafficOf meaningOf isBlock isWords firstNot done
 no-lost-caller r e p = let z : _≡_ {A = ℕ} 7 6 = ap placeNoIn (sym e ∙ ap placeIn (p .0)) in omega arith
 
 -- P E A R D B Y, and the same with W for Y
@@ -231,10 +233,10 @@ no-order-4-8-of-seven s p = let z : _≡_ {A = ℕ} 4 8 = ap numberIn (p .0) in 
 
 -- Sending that hears the other number's control signal: βββ goes out, and the call stays with the operator
 abbrev peardbyAt : Place → Station
-peardbyAt p = record { role = Slave; place = p; count = 0; case = Letters; plus = false; own = record { four = vxqz; seven = peardby }; other = Nobody }
+peardbyAt p = record { role = Slave; place = p; count = 0; case = Letters; plus = false; own = record { four = vxqz; seven = peardby; code = noCode }; other = Nobody; owed = Owed.Nothing }
 
 pub no-call3-taken-elsewhere : (r : Reply) → r .taken ≡ true → Steps (peardbyAt (Sending (record { number = One; block = tea }))) (single cs2) (Offer.Call3 peardby) (Stepped.Done r) → ⊥
-unfolding stepping sound heardOf callOf call3Of isIdentity isCallable isCallable7 firstOf mayHold trafficOf meaningOf isBlock isWords firstNot done
+unfolding stepping sound owedExists passes codeSignals holdsNeither heardOf callOf call3Of isIdentity isCallable isCallable7 firstOf mayHold trafficOf meaningOf isBlock isWords firstNot done
 no-call3-taken-elsewhere r e p = apart (sym e ∙ ap takenIn (p .0))
 
 abbrev stoodIn : Answer Station → ℕ

@@ -1,10 +1,10 @@
--- 01, The station: "The step has one row for each place and one column for each kind of burst."  R-047 to R-085; and 02, T-02 and T-05, for Stand-by and the places behind Lost.
+-- 01, The station: "The step has one row for each place and one column for each kind of burst."  R-047 to R-085; and 02, T-02 and T-05, for Stand-by and the places behind Lost, and T-06.
 --
 -- A row a place, in 01's order, with 01's words and 001's sections. `Repeats`: it stays and sends these; `Goes`: it goes to the
 -- place and sends these; `Takes`: it takes the offer under the number; `Receives` and `Opens`: it goes to Receiving or Opening,
 -- which cancels a + heard; `Rests`: it goes to Stand-by and has so many steps to wait,
--- or 128 where an identity is barred; `Again`: it stays, stands so, and sends these, a
--- repetition in identification. What these, the others and the count then do is Step.antt.
+-- or 128 where an identity is barred; `Yields`: it goes to Turning and sends βαβ, and what is owed of an answer is dropped; `Again`: it
+-- stays, stands so, and sends these, a repetition in identification. What these, the others and the count then do is Step.antt.
 -- Assumes nothing.
 use mathlib.Core.Bool.{Bool, true, false, _&&_}
 use Prim.Native.Nat.{ℕ, _+_}
@@ -34,7 +34,7 @@ use Rattle.mode_a.specs.declared.Own.{Own}
 use Rattle.mode_a.specs.declared.Peer.the-variants.{Four, Known}
 use Rattle.mode_a.specs.declared.Place.the-variants.{Sending, Turning, Opening, Ending, Receiving, Asking, StandBy, Lost, Calling, Calling3, Identifying, Answering}
 use Rattle.mode_a.specs.declared.Doing.{Doing}
-use Rattle.mode_a.specs.declared.Doing.the-variants.{Repeats, Goes, Takes, Receives, Opens, Accepts, Rests, Answers, Listens, Reaches, Answers3, Bars, Ends, Turns, Meets, Again}
+use Rattle.mode_a.specs.declared.Doing.the-variants.{Repeats, Goes, Takes, Receives, Opens, Accepts, Rests, Answers, Listens, Reaches, Answers3, Bars, Ends, Turns, Meets, Again, Yields}
 use Rattle.mode_a.specs.Calls.{nextBlock, nextBlock3}
 use Rattle.mode_a.specs.Identification.{Told, nothing-told, block-1, block-2, block-3, identityBlock, with-1, with-2, with-3}
 use Rattle.mode_a.specs.Station.{single, silence, βαβ, ααα, RQ×3, other, same, asksFor, markOf, marks}
@@ -44,11 +44,12 @@ use Rattle.mode_a.specs.Heard.{First, Cs, Cs3, Rq, Else, Further, Cs4, C
 --     own        "Control signal of its own number: send the block again."              3.7.8, 3.7.9      R-050
 --     other      "Of the other number: the block is confirmed; take the offer ..,       3.7.3, 3.7.7      R-051, R-052, R-053
 --                with the other number."
---     CS3        "CS3: confirmed; send βαβ, go to Turning."                             3.7.11.4          R-058, R-059
+--     CS3        "CS3: confirmed; send βαβ, go to Turning." 02, T-06: "the blocks of    3.7.11.4          R-058, R-059, R-239
+--                the answer not yet sent are then dropped"
 --     all else   "All else: send RQ RQ RQ."                                             3.7.10            R-060
 abbrev pub sending : Held → First → Doing
 sending h (Cs n) = if same n (h .number) then Repeats (h .block) else Takes (other (h .number))
-sending h Cs3 = Goes (Turning (h .number)) βαβ
+sending h Cs3 = Yields (h .number)
 sending h Rq = Repeats RQ×3
 sending h (Else x) = Repeats RQ×3
 
@@ -107,7 +108,7 @@ ending e Rq = endsAgain e
 ending e (Else x) = endsAgain e
 
 -- Receiving "(awaits number n)"                                                                           R-073
---     block      "Three intact words, each traffic or β: accepted" ..                   3.7.4 to 3.7.6    R-073 to R-079
+--     block      "Three intact words, each traffic or β: accepted" ..                   3.7.4 to 3.7.6    R-073 to R-079, R-231
 --     ααα        "ααα: ask for the other number, go to Stand-by."                       3.7.14.2          R-080
 --     all else   "All else, any RQ included: ask for n again."                          3.7.5, 3.7.6      R-081
 abbrev pub receiving : Number → Heard → Doing

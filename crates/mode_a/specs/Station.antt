@@ -1,4 +1,4 @@
--- 01, The station: bursts, numbers, fresh stations; 02, T-02 and T-05: a station at Stand-by.  R-041, R-042, R-043, R-092, R-093, R-094, R-095
+-- 01, The station: bursts, numbers, fresh stations; 02, T-02 and T-05: a station at Stand-by; T-06: the empty code.  R-041, R-042, R-043, R-092, R-093, R-094, R-095
 --
 -- "A station is master or slave, and is at one of these places; the places that send or receive blocks carry their own inner
 -- state." "An offer is text (three words), over, end or nothing", or a call (02, T-02 and T-05).  R-044, R-045, R-046: the types Role, Place and Offer of
@@ -20,7 +20,9 @@ use Rattle.mode_a.specs.declared.Words.{Words}
 use Rattle.mode_a.specs.declared.Mark.{Mark}
 use Rattle.mode_a.specs.declared.Succession.{Succession}
 use Rattle.mode_a.specs.declared.Identity.{Identity}
+use Rattle.mode_a.specs.declared.Code.{Code}
 use Rattle.mode_a.specs.declared.Own.{Own}
+use Rattle.mode_a.specs.declared.Owed.{Owed}
 use Rattle.mode_a.specs.declared.Peer.the-variants.{Nobody}
 use Rattle.mode_a.specs.declared.Place.{Place}
 use Rattle.mode_a.specs.declared.Place.the-variants.{Opening, Receiving, StandBy}
@@ -79,22 +81,27 @@ marks Mark.None n = false
 marks Mark.One n = same One n
 marks Mark.Two n = same Two n
 
--- a station without an identity, of four signals or of seven  R-180, R-201
+-- the empty code: "in the absence of an answer-back code" (3.7.13.2)  R-237
+abbrev pub noCode : Code
+noCode =
+    record { length = 0; first = silence; second = silence; third = silence; fourth = silence; fifth = silence; sixth = silence; seventh = silence }
+
+-- a station without an identity, of four signals or of seven, and with the empty code  R-180, R-201
 abbrev pub noSeven : Seven
 noSeven = record { 0 = 0; 1 = 0; 2 = 0; 3 = 0; 4 = 0; 5 = 0; 6 = 0 }
 
 abbrev pub noIdentity : Own
-noIdentity = record { four = record { 0 = 0; 1 = 0; 2 = 0; 3 = 0 }; seven = noSeven }
+noIdentity = record { four = record { 0 = 0; 1 = 0; 2 = 0; 3 = 0 }; seven = noSeven; code = noCode }
 
 -- "A fresh master is Opening. A fresh slave is Receiving, awaits 1, and its first burst is CS1. Both start with count 0,
 -- letters case and no + heard."  R-092, R-093, R-094, R-095
 abbrev pub freshMaster : Station
 freshMaster =
-    record { role = Master; place = Opening; count = 0; case = Letters; plus = false; own = noIdentity; other = Nobody }
+    record { role = Master; place = Opening; count = 0; case = Letters; plus = false; own = noIdentity; other = Nobody; owed = Owed.Nothing }
 
 abbrev pub freshSlave : Station
 freshSlave =
-    record { role = Slave; place = Receiving One; count = 0; case = Letters; plus = false; own = noIdentity; other = Nobody }
+    record { role = Slave; place = Receiving One; count = 0; case = Letters; plus = false; own = noIdentity; other = Nobody; owed = Owed.Nothing }
 
 abbrev pub firstBurst : Words
 firstBurst = asksFor One
@@ -105,19 +112,19 @@ resting n = StandBy (record { wait = n; heard = Mark.None; heard3 = Succession.N
 
 abbrev pub freshAt : Own → Station
 freshAt i =
-    record { role = Slave; place = resting 0; count = 0; case = Letters; plus = false; own = i; other = Nobody }
+    record { role = Slave; place = resting 0; count = 0; case = Letters; plus = false; own = i; other = Nobody; owed = Owed.Nothing }
 
 -- "8, an identity signal outside table 3a": the index of the first beside it  R-193
 unfoldable pub standing : Identity → Answer Station
 standing i =
     if ltb (firstNot isIdentity (signalsOf i)) 4 then refused 8 (firstNot isIdentity (signalsOf i))
-    else answered (freshAt (record { four = i; seven = noSeven }))
+    else answered (freshAt (record { four = i; seven = noSeven; code = noCode }))
 
 -- "Refusals: 8 also for a self-identity": with both identities, the index over the four signals and then the seven  R-225
 unfoldable pub standingBoth : Identity → Seven → Answer Station
 standingBoth i j =
     if ltb (firstNot isIdentity (signalsOf i ++ signalsOf7 j)) 11 then refused 8 (firstNot isIdentity (signalsOf i ++ signalsOf7 j))
-    else answered (freshAt (record { four = i; seven = j }))
+    else answered (freshAt (record { four = i; seven = j; code = noCode }))
 
 abbrev pub saidStood : Stood → Answer Station
 saidStood (Stood.By s) = answered s

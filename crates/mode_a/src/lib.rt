@@ -1,4 +1,4 @@
-// One station of mode A (01, The station; 02, T-02 and T-05; 001, 3.3 to 3.7): what it is made of. The step is `station::step`; its rules,
+// One station of mode A (01, The station; 02, T-02, T-05 and T-06; 001, 3.3 to 3.7): what it is made of. The step is `station::step`; its rules,
 // place by place, are `specs/Rows.antt` and `specs/Step.antt`.
 ghost use mathlib.Core.Path.{_≡_};
 ghost use Rattle.signals.specs.Numbers.{firstNot};
@@ -160,6 +160,38 @@ impl Identity {
     }
 }
 
+// The answer-back code (02, T-06; 001, 3.7.13.2): at most 20 signals, three to a block. Only the words below the length count; the empty
+// code has length 0.
+pub struct Code {
+    pub length: u8,
+    pub first: Words,
+    pub second: Words,
+    pub third: Words,
+    pub fourth: Words,
+    pub fifth: Words,
+    pub sixth: Words,
+    pub seventh: Words,
+}
+
+pub const NO_CODE: Code = Code {
+    length: 0,
+    first: SILENCE,
+    second: SILENCE,
+    third: SILENCE,
+    fourth: SILENCE,
+    fifth: SILENCE,
+    sixth: SILENCE,
+    seventh: SILENCE,
+};
+
+// What is still owed of an answer-back: nothing; its blocks from this index on, the last of which turns the direction back; or its blocks
+// from this index on, the direction being kept.
+pub enum Owed {
+    Nothing,
+    Back(u8),
+    Keep(u8),
+}
+
 // What Sending holds: a block and its number.
 pub struct Held {
     pub number: Number,
@@ -212,7 +244,7 @@ pub struct Gathered {
 //   Opening    -> Sending      CS1 or CS2 first, the offer taken under that number;  -> Stand-by at CS3
 //   Sending    -> Turning      CS3 first.      Sending, Opening -> Ending   where the offer taken is end
 //   Turning    -> Receiving    RQ RQ RQ (master), RQ first (slave).        Asking -> Opening   βαβ
-//   Receiving  -> Asking       a block accepted, and the over heard in it or offered;  -> Stand-by at ααα
+//   Receiving  -> Asking       a block accepted, and the over heard in it or offered, or D in figures in it;  -> Stand-by at ααα
 //   Ending     -> Stand-by     the other number's signal, or ααα sent four times
 //   Stand-by   -> Receiving    both own call blocks heard;  -> Calling   a call of four signals offered, and nothing left to wait
 //   Calling    -> Sending      the same CS1 or CS2 twice, or Ending;  -> Stand-by at CS3, or where 128 call bursts are sent
@@ -248,10 +280,11 @@ pub enum Offer {
     Call3(Seven),
 }
 
-// What no step changes: the own identities.
+// What no step changes: the own identities, and the answer-back code.
 pub struct Own {
     pub four: Identity,
     pub seven: Seven,
+    pub code: Code,
 }
 
 // Who is at the other end, as far as this station knows: the identity of four signals that it called, or that of seven which
@@ -264,7 +297,7 @@ pub enum Peer {
 }
 
 // A station: at every place it has its repetition count, and of the direction that it receives the case and whether a + was
-// heard that a ? would make an over; its own identity, and who is at the other end.
+// heard that a ? would make an over; its own identities and code, who is at the other end, and what is still owed of an answer-back.
 pub struct Station {
     pub role: Role,
     pub place: Place,
@@ -273,14 +306,16 @@ pub struct Station {
     pub plus: bool,
     pub own: Own,
     pub other: Peer,
+    pub owed: Owed,
 }
 
-// What is kept of the signals of accepted blocks: the case, whether a + was heard that only β has followed, and whether the over
-// was heard in this block.
+// What is kept of the signals of accepted blocks: the case, whether a + was heard that only β has followed, and whether the over, and
+// whether D in figures (who are you), was heard in this block.
 pub struct Listening {
     pub case: Case,
     pub plus: bool,
     pub over: bool,
+    pub asked: bool,
 }
 
 // What a row says is done.
@@ -314,6 +349,8 @@ pub enum Doing {
     Meets(Seven),
     // a repetition in identification: stand so at the same place, and send these; the 32nd leads to Stand-by
     Again(Place, Words),
+    // the last block, which has the number, is confirmed and the direction turns: go to Turning; what is owed of an answer is dropped
+    Yields(Number),
 }
 
 // What a step answers.
@@ -327,12 +364,21 @@ pub struct Reply {
 // What `station::step` answers: the step done, or a refusal with the same station.
 pub enum Stepped {
     Done(Reply),
-    // 4: a count over 31, an Ending total not 1 to 4, or a held word neither traffic nor β
+    // 4: a count over 31, an Ending total not 1 to 4, a held word neither traffic nor β, or an owed block that the answer does not have
     BadStation(Station),
+    // 9: a code over 20 signals, with a word that is not traffic, or holding D in figures or an over
+    BadCode(Station),
     // 3: a word of the text offer neither traffic nor β; the index of the first
     BadWord(usize, Station),
     // 8: a signal of the identity called, or behind it of the own one that identification tells, outside table 3a; the index of the first
     BadCall(usize, Station),
+}
+
+// What `answerback::with_code` answers: the station with its code, or a refusal with the same station.
+pub enum Coded {
+    With(Station),
+    // 9: a code over 20 signals, with a word that is not traffic, or holding D in figures or an over
+    BadCode(Station),
 }
 
 // What `Station::standing_by` and `Station::standing_by_both` answer.
@@ -368,8 +414,10 @@ impl Station {
             own: Own {
                 four: Identity(0, 0, 0, 0),
                 seven: Seven(0, 0, 0, 0, 0, 0, 0),
+                code: NO_CODE,
             },
             other: Peer::Nobody,
+            owed: Owed::Nothing,
         }
     }
 
@@ -387,8 +435,10 @@ impl Station {
             own: Own {
                 four: Identity(0, 0, 0, 0),
                 seven: Seven(0, 0, 0, 0, 0, 0, 0),
+                code: NO_CODE,
             },
             other: Peer::Nobody,
+            owed: Owed::Nothing,
         }
     }
 
@@ -410,6 +460,7 @@ impl Station {
             plus: false,
             own: own,
             other: Peer::Nobody,
+            owed: Owed::Nothing,
         }
     }
 
@@ -425,6 +476,7 @@ impl Station {
         Stood::By(Station::fresh_at(Own {
             four: identity,
             seven: Seven(0, 0, 0, 0, 0, 0, 0),
+            code: NO_CODE,
         }))
     }
 
@@ -443,6 +495,7 @@ impl Station {
         Stood::By(Station::fresh_at(Own {
             four: four,
             seven: seven,
+            code: NO_CODE,
         }))
     }
 

@@ -1,10 +1,10 @@
-// What becomes of the offer (01, The station; 02, T-02 and T-05): a row takes it under a number, or Stand-by places the call that is
-// offered.
+// What becomes of the offer (01, The station; 02, T-02, T-05 and T-06): a row takes it under a number, or the next block of an answer-back
+// that is owed, or Stand-by places the call that is offered.
 ghost use mathlib.Core.Path.{_≡_};
 ghost use mathlib.Core.Bool.{_&&_};
 ghost use Prim.Native.Nat.{_-_};
 ghost use lib.Dec.{leb};
-ghost use Rattle.mode_a.specs.Step.{holds, takes, called, called3, waitsOn, bars, listens};
+ghost use Rattle.mode_a.specs.Step.{holds, takesOffer, takesOwed, takes, called, called3, waitsOn, bars, listens};
 use identity::Seven;
 use mode_a::Called;
 use mode_a::Called3;
@@ -14,6 +14,7 @@ use mode_a::Identity;
 use mode_a::Mark;
 use mode_a::Number;
 use mode_a::Offer;
+use mode_a::Owed;
 use mode_a::Peer;
 use mode_a::Place;
 use mode_a::Reply;
@@ -45,7 +46,7 @@ fn holds(s: Station, number: Number, block: Words, taken: bool) -> Reply
 
 // End is taken under the number: ααα is sent, once so far.
 fn ends(s: Station, number: Number) -> Reply
-    ensures { λ r. ⌜ r ≡ takes s number Offer.End ⌝ }
+    ensures { λ r. ⌜ r ≡ takesOffer s number Offer.End ⌝ }
 {
     let ended = Ended {
         number: number,
@@ -60,8 +61,8 @@ fn ends(s: Station, number: Number) -> Reply
 }
 
 // The offer is taken under the number. A call is not taken: βββ is sent, as where nothing is offered.
-pub fn takes(s: Station, number: Number, offer: Offer) -> Reply
-    ensures { λ r. ⌜ r ≡ takes s number offer ⌝ }
+fn takes_offer(s: Station, number: Number, offer: Offer) -> Reply
+    ensures { λ r. ⌜ r ≡ takesOffer s number offer ⌝ }
 {
     match offer {
         Offer::Text(block) => holds(s, number, block, true),
@@ -70,6 +71,38 @@ pub fn takes(s: Station, number: Number, offer: Offer) -> Reply
         Offer::Nothing => holds(s, number, BETAS, true),
         Offer::Call(_) => holds(s, number, BETAS, false),
         Offer::Call3(_) => holds(s, number, BETAS, false),
+    }
+}
+
+// The next block of the answer-back is taken under the number, and the offer waits.
+fn takes_owed(s: Station, number: Number, owed: Owed) -> Reply
+    ensures { λ r. ⌜ r ≡ takesOwed s number owed ⌝ }
+{
+    let own = s.own;
+    let code = own.code;
+    let block = owed::block(code, owed);
+    let behind = owed::then(code, owed);
+    let held = Held {
+        number: number,
+        block: block,
+    };
+    Reply {
+        station: stands::owing_at(s, Place::Sending(held), behind),
+        sent: block,
+        printed: mode_a::SILENCE,
+        taken: false,
+    }
+}
+
+// What is owed goes before the offer.
+pub fn takes(s: Station, number: Number, offer: Offer) -> Reply
+    ensures { λ r. ⌜ r ≡ takes s number offer ⌝ }
+{
+    let owed = s.owed;
+    match owed {
+        Owed::Nothing => takes_offer(s, number, offer),
+        Owed::Back(_) => takes_owed(s, number, owed),
+        Owed::Keep(_) => takes_owed(s, number, owed),
     }
 }
 

@@ -32,7 +32,7 @@ use Rattle.mode_a.specs.declared.Place.{Place}
 use Rattle.mode_a.specs.declared.Station.{Station}
 use Rattle.mode_a.specs.Station.{listOf, freshMaster, freshSlave}
 use Rattle.mode_a.specs.Heard.{heardOf}
-use Rattle.mode_a.specs.Over.{query, cross}
+use Rattle.mode_a.specs.Over.{query, cross, who}
 use Rattle.runs.specs.Places.{isTurning, isOpening, isReceiving, isAsking, isStandBy, isCalling, isCalling3, isAnswering}
 use Rattle.runs.specs.Runs.{Event, Run, start, _▷_, said, next, after, isAnswered, accepting}
 
@@ -111,3 +111,15 @@ pub record HeardOver (c : Case) (earlier list block : List ℕ) : Type 0 where
 -- the same, for the block of an event after a run of a fresh station: letters at the start, and at each call
 abbrev pub OverIn : Role → Run → Event → Type 0
 OverIn role run e = HeardOver Letters (earlier (fresh role) run) (since (fresh role) run) (listOf (e .burst))
+
+-- 02, T-06: D in figures stands in `block`: the block is a beginning, a D and a rest, and figures case is in force where the D stands;
+-- `earlier` is what was accepted before it in this circuit, and c the case at the circuit's start  R-231, R-234
+pub record HeardWho (c : Case) (earlier block : List ℕ) : Type 0 where
+  pub beginning : List ℕ
+  pub rest : List ℕ
+  pub split : block ≡ beginning ++ who ∷ rest
+  pub figures-at-who : caseAfter c (earlier ++ beginning) ≡ Figures
+
+-- the same, for the block of an event after a run of a fresh station
+abbrev pub WhoIn : Role → Run → Event → Type 0
+WhoIn role run e = HeardWho Letters (accepted (fresh role) run) (listOf (e .burst))

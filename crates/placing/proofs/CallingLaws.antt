@@ -221,7 +221,7 @@ module _ (s : Station) (b : Words) (o : Offer) (r : Reply) (answer : stepping s 
       rw from-calling
       (by-calling (λ d. Uncounted s (done s b o d)) c (firstOf (b .0))
       (λ n x y. by-take (Uncounted s) (knowing s (Four (c .to))) n o
-      (λ w t. record { never-lost = refl; count-0 = refl; prints-nothing = refl; accepts-nothing = (refl, refl) })
+      (λ v w t. record { never-lost = refl; count-0 = refl; prints-nothing = refl; accepts-nothing = (refl, refl) })
       (record { never-lost = refl; count-0 = refl; prints-nothing = refl; accepts-nothing = (refl, refl) }))
       (record { never-lost = refl; count-0 = refl; prints-nothing = refl; accepts-nothing = (refl, refl) })
       (λ l. record { never-lost = refl; count-0 = refl; prints-nothing = refl; accepts-nothing = (refl, refl) }))
@@ -343,7 +343,7 @@ heard-marks (some x) n h = rw (h .0, heard-cs (x .burst .0) n (h .1)) (marks-own
 
 -- traffic, Stand-by, or Calling
 took : (s : Station) (n : Number) (o : Offer) (r : Reply) → r ≡ takes s n o → (inTraffic (r .station .place) ≡ true) × (isStandBy (r .station .place) ≡ false)
-took s n o r q = rw q (by-take (λ (r : Reply). (inTraffic (r .station .place) ≡ true) × (isStandBy (r .station .place) ≡ false)) s n o (λ w t. (refl, refl)) (refl, refl))
+took s n o r q = rw q (by-take (λ (r : Reply). (inTraffic (r .station .place) ≡ true) × (isStandBy (r .station .place) ≡ false)) s n o (λ v w t. (refl, refl)) (refl, refl))
 
 module _ (from : Station) (not-in-a-call : notInACall (from .place) ≡ true) (run : Run) (c : Called) (here : after from run .place ≡ Calling c) (e : Event) (r : Reply) (answer : said (after from run) e ≡ answered r) where
   again : Twice from run e → Again c (firstOf (e .burst .0))

@@ -32,12 +32,14 @@ use Rattle.mode_a.specs.Identification.{identityBlock}
 use Rattle.mode_a.specs.Station.{single, other, asksFor, resting}
 use Rattle.mode_a.specs.Heard.{firstOf, callOf, call3Of, heardOf}
 use Rattle.mode_a.specs.Over.{listenedAll}
+use Rattle.mode_a.specs.Answerback.{passes}
 use Rattle.mode_a.specs.Rows.{rowOf, heardThen}
-use Rattle.mode_a.specs.Step.{movedTo, heardAt, trafficIn, called, waitsOn, sends, takes, repeats, rested, leftAt, waitAt, knowing, again, meets, isOver, accepts, acceptsBy, done, soundPlace, stepping}
+use Rattle.mode_a.specs.Step.{movedTo, heardAt, trafficIn, called, waitsOn, sends, takesOffer, takes, repeats, rested, leftAt, waitAt, knowing, again, meets, isOver, accepts, acceptsBy, done, soundPlace, stepping}
 use Rattle.runs.specs.Places.{isStandBy, isCalling, isCalling3, atCalling3}
 use Rattle.runs.specs.Runs.{InOrder, nextStage}
 use Rattle.runs.proofs.RowLaws.{markIn, by-sending, by-turning, by-opening, by-ending, by-receiving, by-asking, by-standing, by-calling, by-calling3, by-identifying, by-answering}
-use Rattle.runs.proofs.StepLaws.{Answers, answers, held-block, by-repeat, by-again, by-listen}
+use Rattle.runs.proofs.CodeLaws.{owed-block}
+use Rattle.runs.proofs.StepLaws.{Answers, answers, held-block, by-repeat, by-again, by-owed, by-heard, by-listen}
 use Rattle.runs.proofs.LetterLaws.{letteredAt, Lettered}
 use Rattle.placing.specs.Runs.{isCallBurst}
 use Rattle.placing.proofs.BurstLaws.{block-no-call, asked-no-call, requests-no-call, single-no-call, told-no-call}
@@ -67,20 +69,25 @@ pub data Does (s : Station) (b : Words) (o : Offer) (r : Reply) : Type 0 where
 none-sent : {s : Station} {r : Reply} → isCalling3 (r .station .place) ≡ false → isCallBurst (r .sent) ≡ false → Silent s r
 none-sent x c = record { burst = λ l y. c; not-from = λ y. absurd (true≢false (sym y ∙ x)) }
 
--- an offer taken: a block, or ααα
-taken : (s t : Station) (b : Words) (n : Number) (own : Own) (o : Offer) → InOrder own o → Does s b o (takes t n o)
+-- an offer taken: a block, or ααα; or a block of an answer-back
+taken : (s t : Station) (b : Words) (n : Number) (own : Own) (o : Offer) → passes (t .own .code) ≡ true → InOrder own o → Does s b o (takes t n o)
 unfolding isCallBurst isIdentity
-taken s t b n own (Offer.Text w) i = elsewhere refl refl (none-sent refl (block-no-call w i)) refl
-taken s t b n own Offer.Over i = elsewhere refl refl (none-sent refl refl) refl
-taken s t b n own Offer.End i = elsewhere refl refl (none-sent refl refl) refl
-taken s t b n own Offer.Nothing i = elsewhere refl refl (none-sent refl refl) refl
-taken s t b n own (Offer.Call x) i = elsewhere refl refl (none-sent refl refl) refl
-taken s t b n own (Offer.Call3 x) i = elsewhere refl refl (none-sent refl refl) refl
+taken s t b n own o k i =
+    by-owed (Does s b o) t n o (λ e. offer o i) (λ e. elsewhere refl refl (none-sent refl (block-no-call _ (owed-block (t .own .code) (t .owed) k))) (and-false (isCall2 o)))
+  where
+    offer : (o : Offer) → InOrder own o → Does s b o (takesOffer t n o)
+    offer (Offer.Text w) i = elsewhere refl refl (none-sent refl (block-no-call w i)) refl
+    offer Offer.Over i = elsewhere refl refl (none-sent refl refl) refl
+    offer Offer.End i = elsewhere refl refl (none-sent refl refl) refl
+    offer Offer.Nothing i = elsewhere refl refl (none-sent refl refl) refl
+    offer (Offer.Call x) i = elsewhere refl refl (none-sent refl refl) refl
+    offer (Offer.Call3 x) i = elsewhere refl refl (none-sent refl refl) refl
 
 -- a block accepted
 accepted : (s : Station) (n : Number) (b : Words) (o : Offer) → Does s b o (accepts s n b o)
 unfolding isCallBurst isIdentity
-accepted s n b o = go o (listenedAll (s .case) (s .plus) b)
+accepted s n b o =
+    by-heard (Does s b o) s n b o (listenedAll (s .case) (s .plus) b) (λ a. elsewhere refl refl (none-sent refl (single-no-call cs3)) (and-false (isCall2 o))) (λ a. go o (listenedAll (s .case) (s .plus) b))
   where
     not-taken : (o : Offer) (l : Listening) → isOver o ≡ false → Does s b o (acceptsBy s n b false l)
     not-taken o l x = tests (l .over)
@@ -97,7 +104,7 @@ accepted s n b o = go o (listenedAll (s .case) (s .plus) b)
     go (Offer.Call i) l = not-taken _ l refl
     go (Offer.Call3 i) l = not-taken _ l refl
 
-module _ (s : Station) (b : Words) (o : Offer) (fine : InOrder (s .own) o) where
+module _ (s : Station) (b : Words) (o : Offer) (passed : passes (s .own .code) ≡ true) (fine : InOrder (s .own) o) where
   abbrev Row : Doing → Type 0
   Row d = Does s b o (done s b o d)
 
@@ -127,11 +134,11 @@ module _ (s : Station) (b : Words) (o : Offer) (fine : InOrder (s .own) o) where
   by-place : (p : Place) → s .place ≡ p → soundPlace p ≡ true → Row (rowOf (s .own) (s .role) p (heardOf (s .own) b))
   unfolding done heardOf isCallBurst isIdentity
   by-place (Sending x) e i =
-      by-sending Row x (firstOf (b .0)) (λ c. repeated _ e refl refl refl _ (block-no-call (x .block) (sym (held-block (x .block)) ∙ i))) (λ c. taken s s b _ (s .own) o fine) (λ c. sent _ _ refl refl refl refl) (λ c. repeated _ e refl refl refl _ refl)
+      by-sending Row x (firstOf (b .0)) (λ c. repeated _ e refl refl refl _ (block-no-call (x .block) (sym (held-block (x .block)) ∙ i))) (λ c. taken s s b _ (s .own) o passed fine) (λ c. sent _ _ refl refl refl refl) (λ c. repeated _ e refl refl refl _ refl)
   by-place (Turning n) e i =
       by-turning Row (s .role) n (heardOf (s .own) b) (sent _ _ refl refl refl (asked-no-call (other n))) (repeated _ e refl refl refl _ refl) (repeated _ e refl refl refl _ refl)
   by-place Opening e i =
-      by-opening Row (s .role) (firstOf (b .0)) (λ n. taken s s b n (s .own) o fine) (rested-does _ e refl refl refl _ refl) (repeated _ e refl refl refl _ (requests-no-call (s .role)))
+      by-opening Row (s .role) (firstOf (b .0)) (λ n. taken s s b n (s .own) o passed fine) (rested-does _ e refl refl refl _ refl) (repeated _ e refl refl refl _ (requests-no-call (s .role)))
   by-place (Ending x) e i = by-ending Row x (firstOf (b .0)) (rested-does _ e refl refl refl _ refl) (λ l. sent _ _ refl refl refl refl)
   by-place (Receiving n) e i =
       by-receiving Row n (heardOf (s .own) b) (λ y. accepted s n b o) (λ y. rested-does _ e refl refl refl _ (asked-no-call (other n))) (λ y. repeated _ e refl refl refl _ (asked-no-call n))
@@ -140,7 +147,7 @@ module _ (s : Station) (b : Words) (o : Offer) (fine : InOrder (s .own) o) where
       by-standing Row w (heardOf (s .own) b .call) (heardOf (s .own) b .call3) (λ y. sent _ _ refl refl refl refl) (λ y z. sent _ _ refl refl refl refl) (λ y z. by-listen (Does s b o) s _ o (λ x z u. places w x e z (subst (InOrder (s .own)) z fine) refl) (λ x z u. elsewhere refl refl (record { burst = λ l m. absurd (true≢false m); not-from = λ m. ap isCalling e }) (ap (λ (o : Offer). isCall2 o && true) z)) (waits w e refl))
   by-place Lost e i = sent _ _ refl refl refl refl
   by-place (Calling c) e i =
-      by-calling Row c (firstOf (b .0)) (λ n x y. taken s (knowing s (Four (c .to))) b n (s .own) o fine) (rests (ap isStandBy e) (rw (e, waits-so (s .other)), sym (ap (atCalling3 (λ c. Barred (c .to)) (leftAt (s .other))) e)) refl (and-false (isCall2 o))) (λ l. calls-on c e l refl)
+      by-calling Row c (firstOf (b .0)) (λ n x y. taken s (knowing s (Four (c .to))) b n (s .own) o passed fine) (rests (ap isStandBy e) (rw (e, waits-so (s .other)), sym (ap (atCalling3 (λ c. Barred (c .to)) (leftAt (s .other))) e)) refl (and-false (isCall2 o))) (λ l. calls-on c e l refl)
     where
       waits-so : (q : Peer) → waitAt q 128 ≡ 128
       waits-so Nobody = refl
@@ -150,7 +157,7 @@ module _ (s : Station) (b : Words) (o : Offer) (fine : InOrder (s .own) o) where
   by-place (Calling3 c) e i =
       by-calling3 Row (s .own .seven) c (firstOf (b .0)) (λ f. elsewhere refl refl (record { burst = λ l m. told-no-call (s .own .seven) Stage.One (subst (letteredAt (s .own)) e l .1); not-from = λ m. absurd (true≢false (sym m)) }) (and-false (isCall2 o))) (λ f. sent _ _ refl refl refl refl) (rests (ap isStandBy e) (rw e, sym (ap (atCalling3 (λ c. Barred (c .to)) (leftAt (s .other))) e)) refl (and-false (isCall2 o))) (λ l. elsewhere refl refl (record { burst = λ l m. absurd (true≢false m); not-from = λ m. ap isCalling e }) (and-false (isCall2 o)))
   by-place (Identifying x) e i =
-      by-identifying Row (s .own .seven) x (firstOf (b .0)) (λ f. told _ (Identifying x) e refl refl refl refl refl refl _ (blocks (x .stage))) (λ f m. elsewhere refl refl (record { burst = λ l m. blocks (nextStage (x .stage)) l; not-from = λ m. absurd (true≢false (sym m)) }) (and-false (isCall2 o))) (λ w f m n k. told _ (Identifying (record { to = x .to; stage = x .stage; wrong = x .wrong + 1; last = w })) e refl refl refl refl refl refl _ (blocks (x .stage))) (λ w f m n. sent _ _ refl refl refl refl) (λ f m. rested-does _ e refl refl refl _ refl) (λ f m. taken s (knowing s (Known (x .to))) b One (s .own) o fine) (λ f m. sent _ _ refl refl refl refl)
+      by-identifying Row (s .own .seven) x (firstOf (b .0)) (λ f. told _ (Identifying x) e refl refl refl refl refl refl _ (blocks (x .stage))) (λ f m. elsewhere refl refl (record { burst = λ l m. blocks (nextStage (x .stage)) l; not-from = λ m. absurd (true≢false (sym m)) }) (and-false (isCall2 o))) (λ w f m n k. told _ (Identifying (record { to = x .to; stage = x .stage; wrong = x .wrong + 1; last = w })) e refl refl refl refl refl refl _ (blocks (x .stage))) (λ w f m n. sent _ _ refl refl refl refl) (λ f m. rested-does _ e refl refl refl _ refl) (λ f m. taken s (knowing s (Known (x .to))) b One (s .own) o passed fine) (λ f m. sent _ _ refl refl refl refl)
     where
       blocks : (g : Stage) → Lettered s → isCallBurst (identityBlock (s .own .seven) g) ≡ false
       blocks g l = told-no-call (s .own .seven) g (subst (letteredAt (s .own)) e l)
@@ -169,4 +176,4 @@ pub does : (s : Station) (b : Words) (o : Offer) (r : Reply) → stepping s b o 
 does s b o r e = go (answers s b o r e)
   where
     go : Answers s b o r → Does s b o r
-    go a = rw (a .is-done) (by-place s b o (a .is-fine) (s .place) refl (a .is-sound))
+    go a = rw (a .is-done) (by-place s b o (a .is-passed) (a .is-fine) (s .place) refl (a .is-sound))

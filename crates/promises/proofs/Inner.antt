@@ -35,6 +35,8 @@ use Rattle.mode_a.specs.declared.Stage.{Stage}
 use Rattle.mode_a.specs.declared.Words.{Words}
 use Rattle.mode_a.specs.declared.Identity.{Identity}
 use Rattle.mode_a.specs.declared.Own.{Own}
+use Rattle.mode_a.specs.declared.Code.{Code}
+use Rattle.mode_a.specs.declared.Owed.{Owed}
 use Rattle.mode_a.specs.declared.Peer.{Peer}
 use Rattle.mode_a.specs.declared.Peer.the-variants.{Known, Barred}
 use Rattle.mode_a.specs.declared.Waiting.{Waiting}
@@ -53,8 +55,9 @@ use Rattle.mode_a.specs.Calls.{signalsOf, callBlock1, callBlock2}
 use Rattle.mode_a.specs.Station.{words, single, silence, other, same, asksFor, markOf}
 use Rattle.mode_a.specs.Identification.{identityBlock, toldIn}
 use Rattle.mode_a.specs.Heard.{Cs, Cs3, Else, Cs4, Letter, mayHold, isWords, callOf, call3Of}
+use Rattle.mode_a.specs.Answerback.{passes, blockOwed, owedThen, owedExists}
 use Rattle.mode_a.specs.Rows.{requests, callsOn, calling, standBy, allHeard, heardThen, callsOn3, calling3, identifying, sameBlock, hearing, isLast}
-use Rattle.mode_a.specs.Step.{movedTo, cancelledTo, sends, takes, isOver, heardAt, accepts, repeats, again, rested, begun, listens, knowing, meets, ends, turns, unidentified, sound, done}
+use Rattle.mode_a.specs.Step.{movedTo, cancelledTo, sends, takes, isOver, heardAt, owing, accepts, repeats, again, rested, begun, listens, knowing, meets, ends, turns, unidentified, sound, done}
 use Rattle.table.specs.declared.Kind.{Kind}
 use Rattle.table.specs.declared.Action.{Action}
 use Rattle.table.specs.Kinds.{kindOf, columnOf}
@@ -254,6 +257,12 @@ cancelled-to-unique s place r r′ p q = unique p q
 pub heard-at-unique : (s : Station) (place : Place) (l : Listening) (r r′ : Station) → r ≡ heardAt s place l → r′ ≡ heardAt s place l → r ≡ r′
 heard-at-unique s place l r r′ p q = unique p q
 
+pub owing-at-unique : (s : Station) (place : Place) (w : Owed) (r r′ : Station) → r ≡ movedTo (owing s w) place → r′ ≡ movedTo (owing s w) place → r ≡ r′
+owing-at-unique s place w r r′ p q = unique p q
+
+pub asked-at-unique : (s : Station) (place : Place) (l : Listening) (w : Owed) (r r′ : Station) → r ≡ owing (heardAt s place l) w → r′ ≡ owing (heardAt s place l) w → r ≡ r′
+asked-at-unique s place l w r r′ p q = unique p q
+
 pub rested-unique : (s : Station) (wait : ℕ) (r r′ : Station) → r ≡ rested s wait → r′ ≡ rested s wait → r ≡ r′
 rested-unique s wait r r′ p q = unique p q
 
@@ -271,6 +280,20 @@ repeats-unique s w r r′ p q = unique p q
 
 pub again-unique : (s : Station) (place : Place) (w : Words) (r r′ : Reply) → r ≡ again s place w → r′ ≡ again s place w → r ≡ r′
 again-unique s place w r r′ p q = unique p q
+
+-- `answerback::passes`
+pub passes-unique : (code : Code) (r r′ : Bool) → r ≡ passes code → r′ ≡ passes code → r ≡ r′
+passes-unique code r r′ p q = unique p q
+
+-- `owed`: whether the answer has the block that is owed, that block, and what is owed behind it
+pub exists-unique : (code : Code) (w : Owed) (r r′ : Bool) → r ≡ owedExists code w → r′ ≡ owedExists code w → r ≡ r′
+exists-unique code w r r′ p q = unique p q
+
+pub block-unique : (code : Code) (w : Owed) (r r′ : Words) → r ≡ blockOwed code w → r′ ≡ blockOwed code w → r ≡ r′
+block-unique code w r r′ p q = unique p q
+
+pub then-unique : (code : Code) (w : Owed) (r r′ : Owed) → r ≡ owedThen code w → r′ ≡ owedThen code w → r ≡ r′
+then-unique code w r r′ p q = unique p q
 
 -- `acceptance::is_over`, `acceptance::accepts`; `offers::takes`, `offers::listens`
 pub is-over-unique : (o : Offer) (r r′ : Bool) → r ≡ isOver o → r′ ≡ isOver o → r ≡ r′

@@ -11,10 +11,12 @@ ghost use Rattle.signals.specs.Meaning.{meaningOf};
 ghost use Rattle.text.specs.Encoding.{Encodes};
 ghost use Rattle.text.specs.Printing.{Prints};
 ghost use Rattle.mode_a.specs.Station.{freshMaster, freshSlave, firstBurst, StandsBy, StandsByBoth};
-ghost use Rattle.mode_a.specs.Step.{Steps};
+ghost use Rattle.mode_a.specs.Step.{Steps, Codes};
 ghost use Rattle.mode_b.specs.Sender.{Slots};
 ghost use Rattle.mode_b.specs.Receiver.{freshReceiver, Receives};
 use identity::Seven;
+use mode_a::Code;
+use mode_a::Coded;
 use mode_a::Identity;
 use mode_a::Offer;
 use mode_a::Station;
@@ -54,7 +56,7 @@ pub fn print(words: &[u8], case: Case, room: &mut [u8]) -> Printed
     printing::print(words, case, room)
 }
 
-// 01, The station; 02, T-02 and T-05: `step` hears and places calls, and tells and learns identities.
+// 01, The station; 02, T-02, T-05 and T-06: `step` hears and places calls, tells and learns identities, and answers who are you.
 pub fn step(s: Station, burst: Words, offer: Offer) -> Stepped
     ensures { λ r. ⌜ Steps s burst offer r ⌝ }
 {
@@ -83,6 +85,12 @@ pub fn standing_by_both(four: Identity, seven: Seven) -> Stood
     ensures { λ r. ⌜ StandsByBoth four seven r ⌝ }
 {
     Station::standing_by_both(four, seven)
+}
+
+pub fn with_code(s: Station, code: Code) -> Coded
+    ensures { λ r. ⌜ Codes s code r ⌝ }
+{
+    answerback::with_code(s, code)
 }
 
 pub fn first_burst() -> Words

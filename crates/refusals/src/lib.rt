@@ -1,5 +1,6 @@
-// What a step refuses, before anything is done (01, Numbers returned; 02, T-02 and T-05): the first signal of a call that is outside table
-// 3a, a station that is not sound, the first word of a text offer that may not stand there. The order is that of `station::step`.
+// What a step refuses, before anything is done (01, Numbers returned; 02, T-02, T-05 and T-06): the first signal of a call that is outside
+// table 3a, a station that is not sound, the first word of a text offer that may not stand there. The order is that of `station::step`, and
+// the code is judged by `answerback`.
 ghost use mathlib.Core.Path.{_≡_};
 ghost use mathlib.Core.List.{_++_};
 ghost use Rattle.signals.specs.Numbers.{firstNot};
@@ -97,7 +98,13 @@ pub fn sound(s: Station) -> bool
     if Station::LIMIT - 1 < count {
         return false;
     }
-    sound_place(place)
+    if !sound_place(place) {
+        return false;
+    }
+    let own = s.own;
+    let code = own.code;
+    let owed = s.owed;
+    owed::exists(code, owed)
 }
 
 // The index of the first word of a text offer that may not stand there; 3 where all may, or the offer has no words.

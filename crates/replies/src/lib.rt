@@ -1,16 +1,18 @@
 // What a station answers by what its row says to do: the new station, the burst to send, up to three printed signals, and whether the
-// offer was taken (01, The station; 02, T-02 and T-05; 001, 3.5 to 3.7). Which of these is done is told by `table` and `doings`; refusals
+// offer was taken (01, The station; 02, T-02, T-05 and T-06; 001, 3.5 to 3.7). Which of these is done is told by `table` and `doings`; refusals
 // stand in `station`.
 ghost use mathlib.Core.Path.{_≡_};
 ghost use Rattle.mode_a.specs.declared.Number.the-variants.{One};
-ghost use Rattle.mode_a.specs.declared.Place.the-variants.{Opening, Receiving};
+ghost use Rattle.mode_a.specs.declared.Owed.{Owed};
+ghost use Rattle.mode_a.specs.declared.Place.the-variants.{Turning, Opening, Receiving};
 ghost use Rattle.mode_a.specs.declared.Role.the-variants.{Slave};
-ghost use Rattle.mode_a.specs.Station.{asksFor};
+ghost use Rattle.mode_a.specs.Station.{βαβ, asksFor};
 ghost use Rattle.mode_a.specs.Rows.{requests};
-ghost use Rattle.mode_a.specs.Step.{movedTo, cancelledTo, sends, takes, rested, begun, knowing, done};
+ghost use Rattle.mode_a.specs.Step.{movedTo, cancelledTo, sends, takes, rested, begun, knowing, owing, done};
 use mode_a::Doing;
 use mode_a::Number;
 use mode_a::Offer;
+use mode_a::Owed;
 use mode_a::Peer;
 use mode_a::Place;
 use mode_a::Reply;
@@ -60,6 +62,16 @@ fn answers(s: Station) -> Reply
     )
 }
 
+// The direction turns, and what is owed of an answer-back is dropped.
+fn yields(s: Station, number: Number) -> Reply
+    ensures { λ r. ⌜ r ≡ sends (movedTo (owing s Owed.Nothing) (Turning number)) βαβ ⌝ }
+{
+    stands::sends(
+        stands::owing_at(s, Place::Turning(number), Owed::Nothing),
+        mode_a::TURN,
+    )
+}
+
 // Who is at the other end is known, and the offer is taken.
 fn reaches(s: Station, other: Peer, number: Number, offer: Offer) -> Reply
     ensures { λ r. ⌜ r ≡ takes (knowing s other) number offer ⌝ }
@@ -88,5 +100,6 @@ pub fn done(s: Station, b: Words, offer: Offer, doing: Doing) -> Reply
         Doing::Turns(to) => meeting::turns(s, to),
         Doing::Meets(got) => meeting::meets(s, got, offer),
         Doing::Again(place, words) => stands::again(s, place, words),
+        Doing::Yields(number) => yields(s, number),
     }
 }

@@ -57,23 +57,23 @@ module _ (s : Station) (b : Words) (o : Offer) (fine : InOrder (s .own) o) (h : 
   by-place : (p : Place) → letteredAt (s .own) p → Row p (rowOf (s .own) (s .role) p h)
   unfolding done After
   by-place (Sending x) l =
-      by-sending (Row (Sending x)) x (h .first) (λ c. by-repeat After (placed s (Sending x)) _ (λ u. tt) (λ u. tt)) (λ c. by-take After (placed s (Sending x)) _ o (λ w t. tt) tt) (λ c. tt) (λ c. by-repeat After (placed s (Sending x)) _ (λ u. tt) (λ u. tt))
+      by-sending (Row (Sending x)) x (h .first) (λ c. by-repeat After (placed s (Sending x)) _ (λ u. tt) (λ u. tt)) (λ c. by-take After (placed s (Sending x)) _ o (λ u w t. tt) tt) (λ c. tt) (λ c. by-repeat After (placed s (Sending x)) _ (λ u. tt) (λ u. tt))
   by-place (Turning n) l =
       by-turning (Row (Turning n)) (s .role) n h tt (by-repeat After (placed s (Turning n)) _ (λ u. tt) (λ u. tt)) (by-repeat After (placed s (Turning n)) _ (λ u. tt) (λ u. tt))
   by-place Opening l =
-      by-opening (Row Opening) (s .role) (h .first) (λ n. by-take After (placed s Opening) n o (λ w t. tt) tt) tt (by-repeat After (placed s Opening) _ (λ u. tt) (λ u. tt))
+      by-opening (Row Opening) (s .role) (h .first) (λ n. by-take After (placed s Opening) n o (λ u w t. tt) tt) tt (by-repeat After (placed s Opening) _ (λ u. tt) (λ u. tt))
   by-place (Ending x) l = by-ending (Row (Ending x)) x (h .first) tt (λ m. tt)
   by-place (Receiving n) l =
-      by-receiving (Row (Receiving n)) n h (λ y. by-accept After (placed s (Receiving n)) n b (isOver o) (listenedAll (s .case) (s .plus) b) (λ u. tt) tt) (λ y. tt) (λ y. by-repeat After (placed s (Receiving n)) _ (λ u. tt) (λ u. tt))
+      by-receiving (Row (Receiving n)) n h (λ y. by-accept After (placed s (Receiving n)) n b o (listenedAll (s .case) (s .plus) b) (λ w u. tt) tt) (λ y. tt) (λ y. by-repeat After (placed s (Receiving n)) _ (λ u. tt) (λ u. tt))
   by-place Asking l = by-asking (Row Asking) h tt (by-repeat After (placed s Asking) _ (λ u. tt) (λ u. tt))
   by-place (StandBy w) l =
       by-standing (Row (StandBy w)) w (h .call) (h .call3) (λ y. tt) (λ y z. tt) (λ y z. by-listen After (placed s (StandBy w)) _ o (λ x c z. tt) (λ x c z. subst (InOrder (s .own)) c fine) tt)
   by-place Lost l = tt
   by-place (Calling c) l =
-      by-calling (Row (Calling c)) c (h .first) (λ n f m. by-take After (knowing (placed s (Calling c)) (Four (c .to))) n o (λ w t. tt) tt) tt (λ m. tt)
+      by-calling (Row (Calling c)) c (h .first) (λ n f m. by-take After (knowing (placed s (Calling c)) (Four (c .to))) n o (λ u w t. tt) tt) tt (λ m. tt)
   by-place (Calling3 c) l = by-calling3 (Row (Calling3 c)) (s .own .seven) c (h .first) (λ e. l .1) (λ e. tt) tt (λ m. l)
   by-place (Identifying i) l =
-      by-identifying (Row (Identifying i)) (s .own .seven) i (h .first) (λ e. by-again After (placed s (Identifying i)) (Identifying i) _ (λ u. tt) (λ u. l)) (λ e m. l) (λ w e m n k. by-again After (placed s (Identifying i)) (Identifying (record { to = i .to; stage = i .stage; wrong = i .wrong + 1; last = w })) _ (λ u. tt) (λ u. l)) (λ w e m n. tt) (λ e m. tt) (λ e m. by-take After (knowing (placed s (Identifying i)) (Known (i .to))) One o (λ w t. tt) tt) (λ e m. tt)
+      by-identifying (Row (Identifying i)) (s .own .seven) i (h .first) (λ e. by-again After (placed s (Identifying i)) (Identifying i) _ (λ u. tt) (λ u. l)) (λ e m. l) (λ w e m n k. by-again After (placed s (Identifying i)) (Identifying (record { to = i .to; stage = i .stage; wrong = i .wrong + 1; last = w })) _ (λ u. tt) (λ u. l)) (λ w e m n. tt) (λ e m. tt) (λ e m. by-take After (knowing (placed s (Identifying i)) (Known (i .to))) One o (λ u w t. tt) tt) (λ e m. tt)
   by-place (Answering g) l =
       by-answering (Row (Answering g)) (s .own .seven) g h tt (λ m. by-meet After (knowing (placed s (Answering g)) (Known (g .got))) (isOver o) tt tt) (λ m x w. tt) (λ x w. by-again After (placed s (Answering g)) (Answering (record { stage = g .stage; got = x })) (single w) (λ u. tt) (λ u. tt))
 

@@ -23,9 +23,9 @@ use Rattle.mode_a.specs.declared.Identified.{Identified}
 use Rattle.mode_a.specs.declared.Gathered.{Gathered}
 use Rattle.mode_a.specs.declared.Peer.the-variants.{Four, Known}
 use Rattle.mode_a.specs.declared.Number.the-variants.{One, Two}
-use Rattle.mode_a.specs.declared.Place.the-variants.{Turning, Ending, Calling, Calling3, Identifying, Answering}
+use Rattle.mode_a.specs.declared.Place.the-variants.{Ending, Calling, Calling3, Identifying, Answering}
 use Rattle.mode_a.specs.declared.Doing.{Doing}
-use Rattle.mode_a.specs.declared.Doing.the-variants.{Repeats, Goes, Takes, Receives, Opens, Accepts, Rests, Answers, Listens, Reaches, Answers3, Bars, Ends, Turns, Meets, Again}
+use Rattle.mode_a.specs.declared.Doing.the-variants.{Repeats, Goes, Takes, Receives, Opens, Accepts, Rests, Answers, Listens, Reaches, Answers3, Bars, Ends, Turns, Meets, Again, Yields}
 use Rattle.mode_a.specs.Calls.{nextBlock, nextBlock3}
 use Rattle.mode_a.specs.Identification.{Told, nothing-told, block-1, block-2, block-3, identityBlock}
 use Rattle.mode_a.specs.Station.{single, silence, βαβ, ααα, RQ×3, other, same, asksFor, markOf, marks}
@@ -45,7 +45,7 @@ module _ (P : Doing → Type 0) where
   by-test true p q = p
   by-test false p q = q
 
-  pub by-sending : (x : Held) (f : First) → (confirming x f ≡ false → P (Repeats (x .block))) → (confirming x f ≡ true → P (Takes (other (x .number)))) → (confirming x f ≡ true → P (Goes (Turning (x .number)) βαβ)) → (confirming x f ≡ false → P (Repeats RQ×3)) → P (sending x f)
+  pub by-sending : (x : Held) (f : First) → (confirming x f ≡ false → P (Repeats (x .block))) → (confirming x f ≡ true → P (Takes (other (x .number)))) → (confirming x f ≡ true → P (Yields (x .number))) → (confirming x f ≡ false → P (Repeats RQ×3)) → P (sending x f)
   by-sending x (Cs n) own next turn ask = go (same n (x .number)) own next
     where
       go : (t : Bool) → (not t ≡ false → P (Repeats (x .block))) → (not t ≡ true → P (Takes (other (x .number)))) → P (if t then Repeats (x .block) else Takes (other (x .number)))

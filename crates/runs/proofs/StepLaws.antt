@@ -4,9 +4,10 @@
 --     held-block                      what is held at a sound place is a block
 --     placed, oneMore                 the same station at a place; with one more repetition
 --     by-repeat, by-take, by-accept   what is so of each answer that the row leaves open is so of the answer
+--     by-owed, by-heard               the same, by whether a part of an answer-back is owed, and by whether who are you was heard
 --     by-again, by-meet               the same in identification
 --     by-listen                       the same of a station at Stand-by that answers no call
---     own-kept, own-lasts             no step changes the own identities, and so no run
+--     own-kept, own-stays, own-lasts  no step changes the own identities and the code, and so no run
 --     lost-stays                      silent for good
 --     standby-answers, standby-answers3, standby-listens   what Stand-by does, by whether both call blocks came, or all three
 --     keeps                           a refusal leaves the station as it was
@@ -30,6 +31,7 @@ use Rattle.mode_a.specs.declared.Place.{Place}
 use Rattle.mode_a.specs.declared.Identity.{Identity}
 use Rattle.mode_a.specs.declared.Waiting.{Waiting}
 use Rattle.mode_a.specs.declared.Own.{Own}
+use Rattle.mode_a.specs.declared.Owed.{Owed}
 use Rattle.mode_a.specs.declared.Peer.the-variants.{Known}
 use Rattle.mode_a.specs.declared.Number.the-variants.{One}
 use Rattle.mode_a.specs.declared.Place.the-variants.{Receiving, Asking, StandBy, Lost}
@@ -37,7 +39,7 @@ use Rattle.mode_a.specs.declared.Offer.{Offer}
 use Rattle.mode_a.specs.declared.Station.{Station}
 use Rattle.mode_a.specs.declared.Listening.{Listening}
 use Rattle.mode_a.specs.declared.Doing.{Doing}
-use Rattle.mode_a.specs.declared.Doing.the-variants.{Repeats, Goes, Takes, Receives, Opens, Accepts, Rests, Listens, Reaches, Answers3, Bars, Ends, Turns, Meets, Again}
+use Rattle.mode_a.specs.declared.Doing.the-variants.{Repeats, Goes, Takes, Receives, Opens, Accepts, Rests, Listens, Reaches, Answers3, Bars, Ends, Turns, Meets, Again, Yields}
 use Rattle.mode_a.specs.declared.Reply.{Reply}
 use Rattle.mode_a.specs.Station.{listOf, single, silence, ααα, other, asksFor}
 use Rattle.identity.specs.declared.Seven.{Seven}
@@ -46,9 +48,11 @@ use Rattle.identity.specs.Sums.{signalsOf7, isCallable7}
 use Rattle.mode_a.specs.Calls.{signalsOf, isCallable}
 use Rattle.mode_a.specs.Heard.{mayHold, isBlock, isWords, callOf, call3Of, heardOf}
 use Rattle.mode_a.specs.Over.{listenedAll}
+use Rattle.mode_a.specs.Answerback.{passes, owedExists}
 use Rattle.mode_a.specs.Rows.{rowOf, requests, bothHeard, allHeard, heardThen}
-use Rattle.mode_a.specs.Step.{standsAt, movedTo, rested, begun, called, called3, waitsOn, bars, listens, knowing, again, meets, unidentified, calledTo, sends, holds, takes, repeats, heardAt, isOver, acceptsBy, trafficIn, done, soundPlace, sound, offered, stepping, stationAfter}
+use Rattle.mode_a.specs.Step.{standsAt, movedTo, rested, begun, called, called3, waitsOn, bars, listens, knowing, again, meets, unidentified, calledTo, sends, holds, takesOffer, owing, takesOwed, takesBy, takes, repeats, heardAt, isOver, acceptsBy, owedFor, isAsked, acceptsHeard, trafficIn, done, soundPlace, sound, offered, stepping, stationAfter}
 use Rattle.runs.specs.Runs.{Event, Run, start, _▷_, said, next, after, InOrder}
+use Rattle.runs.proofs.CodeLaws.{isOwed, owed-block}
 
 -- what may stand in an offered text, and be held, is a block
 text-test : (w : Words) → (ltb (firstNot mayHold (listOf w)) 3 ≡ not (isBlock w)) × (leb 3 (firstNot mayHold (listOf w)) ≡ isBlock w)
@@ -134,23 +138,27 @@ not-refused own (Offer.Call3 x) i = (call3-test x (own .seven) ∙ rw (i .0, i .
 pub record Answers (s : Station) (b : Words) (o : Offer) (r : Reply) : Type 0 where
   pub is-done : r ≡ done s b o (rowOf (s .own) (s .role) (s .place) (heardOf (s .own) b))
   pub is-sound : soundPlace (s .place) ≡ true
+  pub is-owed : owedExists (s .own .code) (s .owed) ≡ true
+  pub is-passed : passes (s .own .code) ≡ true
   pub is-fine : InOrder (s .own) o
 
 pub answers : (s : Station) (b : Words) (o : Offer) (r : Reply) → stepping s b o ≡ answered r → Answers s b o r
 unfolding stepping sound
 answers s b o r e =
-    go (badCall (s .own) o) (leb (s .count) 31) (soundPlace (s .place)) (badText o) refl refl refl e
+    go (badCall (s .own) o) (leb (s .count) 31) (soundPlace (s .place)) (owedExists (s .own .code) (s .owed)) (passes (s .own .code)) (badText o) refl refl refl refl refl e
   where
-    go : (d c p q : Bool) → badCall (s .own) o ≡ d → soundPlace (s .place) ≡ p → badText o ≡ q → _≡_ {A = Answer Reply} (if d then refused 8 (firstNot isIdentity (calledTo (s .own) o)) else if not (c && p) then refused 4 0 else if q then refused 3 (firstNot mayHold (offered o)) else answered (done s b o (rowOf (s .own) (s .role) (s .place) (heardOf (s .own) b)))) (answered r) → Answers s b o r
-    go true c p q h i j e = let z : _≡_ {A = ℕ} 0 1 = cc in absurd (omega arith)
-    go false false p q h i j e = let z : _≡_ {A = ℕ} 0 1 = cc in absurd (omega arith)
-    go false true false q h i j e = let z : _≡_ {A = ℕ} 0 1 = cc in absurd (omega arith)
-    go false true true true h i j e = let z : _≡_ {A = ℕ} 0 1 = cc in absurd (omega arith)
-    go false true true false h i j e = record { is-done = cc; is-sound = i; is-fine = fine (s .own) o h j }
+    go : (d c p w k q : Bool) → badCall (s .own) o ≡ d → soundPlace (s .place) ≡ p → owedExists (s .own .code) (s .owed) ≡ w → passes (s .own .code) ≡ k → badText o ≡ q → _≡_ {A = Answer Reply} (if d then refused 8 (firstNot isIdentity (calledTo (s .own) o)) else if not (c && (p && w)) then refused 4 0 else if not k then refused 9 0 else if q then refused 3 (firstNot mayHold (offered o)) else answered (done s b o (rowOf (s .own) (s .role) (s .place) (heardOf (s .own) b)))) (answered r) → Answers s b o r
+    go true c p w k q h i u v j e = let z : _≡_ {A = ℕ} 0 1 = cc in absurd (omega arith)
+    go false false p w k q h i u v j e = let z : _≡_ {A = ℕ} 0 1 = cc in absurd (omega arith)
+    go false true false w k q h i u v j e = let z : _≡_ {A = ℕ} 0 1 = cc in absurd (omega arith)
+    go false true true false k q h i u v j e = let z : _≡_ {A = ℕ} 0 1 = cc in absurd (omega arith)
+    go false true true true false q h i u v j e = let z : _≡_ {A = ℕ} 0 1 = cc in absurd (omega arith)
+    go false true true true true true h i u v j e = let z : _≡_ {A = ℕ} 0 1 = cc in absurd (omega arith)
+    go false true true true true false h i u v j e = record { is-done = cc; is-sound = i; is-owed = u; is-passed = v; is-fine = fine (s .own) o h j }
 
-pub is-answered : (s : Station) (b : Words) (o : Offer) → sound s ≡ true → InOrder (s .own) o → stepping s b o ≡ answered (done s b o (rowOf (s .own) (s .role) (s .place) (heardOf (s .own) b)))
+pub is-answered : (s : Station) (b : Words) (o : Offer) → sound s ≡ true → passes (s .own .code) ≡ true → InOrder (s .own) o → stepping s b o ≡ answered (done s b o (rowOf (s .own) (s .role) (s .place) (heardOf (s .own) b)))
 unfolding stepping
-is-answered s b o t i = rw (not-refused (s .own) o i .0, t, not-refused (s .own) o i .1)
+is-answered s b o t k i = rw (not-refused (s .own) o i .0, t, k, not-refused (s .own) o i .1)
 
 -- the same station at a place; every station is so at its own
 abbrev pub placed : Station → Place → Station
@@ -180,33 +188,57 @@ pub by-meet : (P : Reply → Type 0) (s : Station) (t : Bool) → P (meets s tru
 by-meet P s true asks awaits = asks
 by-meet P s false asks awaits = awaits
 
--- a row that takes the offer: a block is held, or ααα is sent for the first time
-pub by-take : (P : Reply → Type 0) (s : Station) (n : Number) (o : Offer) → ((w : Words) (t : Bool) → P (holds s n w t)) → P (takes s n Offer.End) → P (takes s n o)
-by-take P s n (Offer.Text w) block end = block w true
-by-take P s n Offer.Over block end = block _ true
-by-take P s n Offer.End block end = end
-by-take P s n Offer.Nothing block end = block _ true
-by-take P s n (Offer.Call i) block end = block _ false
-by-take P s n (Offer.Call3 i) block end = block _ false
-
--- and where the offer is in order, it is a block
-pub by-take-block : (P : Reply → Type 0) (s : Station) (n : Number) (own : Own) (o : Offer) → InOrder own o → ((w : Words) (t : Bool) → isBlock w ≡ true → P (holds s n w t)) → P (takes s n Offer.End) → P (takes s n o)
-unfolding isBlock mayHold trafficOf meaningOf
-by-take-block P s n own (Offer.Text w) i block end = block w true i
-by-take-block P s n own Offer.Over i block end = block _ true refl
-by-take-block P s n own Offer.End i block end = end
-by-take-block P s n own Offer.Nothing i block end = block _ true refl
-by-take-block P s n own (Offer.Call x) i block end = block _ false refl
-by-take-block P s n own (Offer.Call3 x) i block end = block _ false refl
-
--- a row that accepts: CS3 and Asking, or the other number
-pub by-accept : (P : Reply → Type 0) (s : Station) (n : Number) (b : Words) (t : Bool) (l : Listening) → ((u : Bool) → P (record { station = heardAt s Asking l; sent = single cs3; printed = trafficIn b; taken = u })) → P (record { station = heardAt s (Receiving (other n)) l; sent = asksFor (other n); printed = trafficIn b; taken = false }) → P (acceptsBy s n b t l)
-by-accept P s n b true l asks awaits = asks true
-by-accept P s n b false l asks awaits = go (l .over)
+-- a row that takes: the offer where nothing is owed, else the next block of the answer (02, T-06)
+pub by-owed : (P : Reply → Type 0) (s : Station) (n : Number) (o : Offer) → (s .owed ≡ Owed.Nothing → P (takesOffer s n o)) → (isOwed (s .owed) ≡ true → P (takesOwed s n (s .owed))) → P (takes s n o)
+by-owed P s n o offer answer = go (s .owed) offer answer
   where
-    go : (u : Bool) → P (if u then record { station = heardAt s Asking l; sent = single cs3; printed = trafficIn b; taken = false } else record { station = heardAt s (Receiving (other n)) l; sent = asksFor (other n); printed = trafficIn b; taken = false })
-    go true = asks false
-    go false = awaits
+    go : (w : Owed) → (w ≡ Owed.Nothing → P (takesOffer s n o)) → (isOwed w ≡ true → P (takesOwed s n w)) → P (takesBy s n o w)
+    go Owed.Nothing offer answer = offer refl
+    go (Owed.Back i) offer answer = answer refl
+    go (Owed.Keep i) offer answer = answer refl
+
+-- and so a block is held, whatever is owed then, or ααα is sent for the first time
+pub by-take : (P : Reply → Type 0) (s : Station) (n : Number) (o : Offer) → ((u : Owed) (w : Words) (t : Bool) → P (holds (owing s u) n w t)) → P (takesOffer s n Offer.End) → P (takes s n o)
+by-take P s n o block end = by-owed P s n o (λ e. go o) (λ e. block _ _ false)
+  where
+    go : (o : Offer) → P (takesOffer s n o)
+    go (Offer.Text w) = block (s .owed) w true
+    go Offer.Over = block (s .owed) _ true
+    go Offer.End = end
+    go Offer.Nothing = block (s .owed) _ true
+    go (Offer.Call i) = block (s .owed) _ false
+    go (Offer.Call3 i) = block (s .owed) _ false
+
+-- and where the offer is in order and the code passes, it is a block
+pub by-take-block : (P : Reply → Type 0) (s : Station) (n : Number) (own : Own) (o : Offer) → passes (s .own .code) ≡ true → InOrder own o → ((u : Owed) (w : Words) (t : Bool) → isBlock w ≡ true → P (holds (owing s u) n w t)) → P (takesOffer s n Offer.End) → P (takes s n o)
+unfolding isBlock mayHold trafficOf meaningOf
+by-take-block P s n own o k i block end =
+    by-owed P s n o (λ e. go o i) (λ e. block _ _ false (owed-block (s .own .code) (s .owed) k))
+  where
+    go : (o : Offer) → InOrder own o → P (takesOffer s n o)
+    go (Offer.Text w) i = block (s .owed) w true i
+    go Offer.Over i = block (s .owed) _ true refl
+    go Offer.End i = end
+    go Offer.Nothing i = block (s .owed) _ true refl
+    go (Offer.Call x) i = block (s .owed) _ false refl
+    go (Offer.Call3 x) i = block (s .owed) _ false refl
+
+-- a row that accepts: D in figures was heard, or not
+pub by-heard : (P : Reply → Type 0) (s : Station) (n : Number) (b : Words) (o : Offer) (l : Listening) → (l .asked ≡ true → P (isAsked s b l)) → (l .asked ≡ false → P (acceptsBy s n b (isOver o) l)) → P (acceptsHeard s n b o l)
+by-heard P s n b o l = go (l .asked)
+  where
+    go : (t : Bool) → (t ≡ true → P (isAsked s b l)) → (t ≡ false → P (acceptsBy s n b (isOver o) l)) → P (if t then isAsked s b l else acceptsBy s n b (isOver o) l)
+    go true asked unasked = asked refl
+    go false asked unasked = unasked refl
+
+-- and so CS3 and Asking, whatever is owed then, or the other number
+pub by-accept : (P : Reply → Type 0) (s : Station) (n : Number) (b : Words) (o : Offer) (l : Listening) → ((w : Owed) (u : Bool) → P (record { station = owing (heardAt s Asking l) w; sent = single cs3; printed = trafficIn b; taken = u })) → P (record { station = heardAt s (Receiving (other n)) l; sent = asksFor (other n); printed = trafficIn b; taken = false }) → P (acceptsHeard s n b o l)
+by-accept P s n b o l asks awaits = by-heard P s n b o l (λ e. asks (owedFor l) false) (λ e. go (isOver o) (l .over))
+  where
+    go : (t u : Bool) → P (acceptsBy s n b t (record { case = l .case; plus = l .plus; over = u; asked = l .asked }))
+    go true u = asks (s .owed) true
+    go false true = asks (s .owed) false
+    go false false = awaits
 
 -- a row of Stand-by that answers no call: the call that is offered is placed, or it waits on
 pub by-listen : (P : Reply → Type 0) (s : Station) (w : Waiting) (o : Offer) → ((i : Identity) → o ≡ Offer.Call i → w .wait ≡ 0 → P (called s i)) → ((i : Seven) → o ≡ Offer.Call3 i → leb 1 (w .wait) && bars (s .other) i ≡ false → P (called3 s i)) → P (waitsOn s w) → P (listens s w o)
@@ -225,25 +257,29 @@ by-listen P s w (Offer.Call3 i) place place3 wait = go (leb 1 (w .wait) && bars 
     go true e = wait
     go false e = place3 i refl e
 
--- the own identities: no step changes them
+-- the own identities and the code: no step changes them
 pub own-kept : (s : Station) (b : Words) (o : Offer) (d : Doing) → done s b o d .station .own ≡ s .own
 unfolding done
 own-kept s b o (Repeats w) = by-repeat (λ (r : Reply). r .station .own ≡ s .own) s w (λ t. refl) (λ t. refl)
 own-kept s b o (Goes p w) = refl
-own-kept s b o (Takes n) = by-take (λ (r : Reply). r .station .own ≡ s .own) s n o (λ w t. refl) refl
+own-kept s b o (Takes n) = by-take (λ (r : Reply). r .station .own ≡ s .own) s n o (λ u w t. refl) refl
 own-kept s b o (Receives n) = refl
 own-kept s b o Opens = refl
-own-kept s b o (Accepts n) = by-accept (λ (r : Reply). r .station .own ≡ s .own) s n b (isOver o) (listenedAll (s .case) (s .plus) b) (λ u. refl) refl
+own-kept s b o (Accepts n) = by-accept (λ (r : Reply). r .station .own ≡ s .own) s n b o (listenedAll (s .case) (s .plus) b) (λ w u. refl) refl
 own-kept s b o (Rests n w) = refl
 own-kept s b o Doing.Answers = refl
 own-kept s b o (Listens w) = by-listen (λ (r : Reply). r .station .own ≡ s .own) s w o (λ i e z. refl) (λ i e z. refl) refl
-own-kept s b o (Reaches p n) = by-take (λ (r : Reply). r .station .own ≡ s .own) (knowing s p) n o (λ w t. refl) refl
+own-kept s b o (Reaches p n) = by-take (λ (r : Reply). r .station .own ≡ s .own) (knowing s p) n o (λ u w t. refl) refl
 own-kept s b o Answers3 = refl
 own-kept s b o (Bars i) = refl
 own-kept s b o (Ends i) = refl
 own-kept s b o (Turns i) = refl
 own-kept s b o (Meets i) = by-meet (λ (r : Reply). r .station .own ≡ s .own) (knowing s (Known i)) (isOver o) refl refl
 own-kept s b o (Again p w) = by-again (λ (r : Reply). r .station .own ≡ s .own) s p w (λ t. refl) (λ t. refl)
+own-kept s b o (Yields n) = refl
+
+pub own-stays : (s : Station) (b : Words) (o : Offer) (r : Reply) → stepping s b o ≡ answered r → r .station .own ≡ s .own
+own-stays s b o r e = ap (λ (r : Reply). r .station .own) (answers s b o r e .is-done) ∙ own-kept s b o _
 
 -- "Lost: silent for good, no offer taken"
 module _ (s : Station) (b : Words) (o : Offer) (r : Reply) (a : Answers s b o r) where
@@ -273,11 +309,11 @@ keeps P s e step p = go (said s e) refl
     go (answered r) i = step r i p
     go (refused n v) i = p
 
--- the own identities are those of the start, in every run
+-- they are those of the start, in every run
 pub own-lasts : (s : Station) (run : Run) → after s run .own ≡ s .own
 own-lasts s start = refl
 own-lasts s (run ▷ e) =
-    keeps (λ (t : Station). t .own ≡ s .own) (after s run) e (λ r p i. ap (λ (r : Reply). r .station .own) (answers (after s run) (e .burst) (e .offer) r p .is-done) ∙ own-kept (after s run) (e .burst) (e .offer) _ ∙ i) (own-lasts s run)
+    keeps (λ (t : Station). t .own ≡ s .own) (after s run) e (λ r p i. own-stays (after s run) (e .burst) (e .offer) r p ∙ i) (own-lasts s run)
 
 -- neither a request nor a block is ααα
 pub requests-no-ααα : (r : Role) → isWords (requests r) ααα ≡ false

@@ -1,8 +1,10 @@
 -- Where a row takes the offer, told by the place and the first word, and what the answer reports of it.
 --     takes-by-row        the test of a place and a first word is that of the row
---     taken-as-reported   of every offer but a call, a block is taken exactly where the answer says so and the station is at Sending
+--     taken-as-reported   where nothing is owed, of every offer but a call: a block is taken exactly where the answer says so and the
+--                         station is at Sending
+--     owed-unreported     where a part of an answer-back is owed: a row that takes has its next block held, and reports no offer as taken
 -- Assumes nothing.
-use mathlib.Core.Path.{_≡_, refl, sym, _∙_}
+use mathlib.Core.Path.{_≡_, refl, ap, sym, _∙_}
 use mathlib.Core.Bool.{Bool, true, false, not, _&&_, and-false, true≢false}
 use Prim.Native.Nat.{ℕ}
 use lib.Dec.{leb}
@@ -12,6 +14,7 @@ use Rattle.mode_a.specs.declared.Number.{Number}
 use Rattle.mode_a.specs.declared.Number.the-variants.{One, Two}
 use Rattle.mode_a.specs.declared.Stage.{Stage}
 use Rattle.mode_a.specs.declared.Own.{Own}
+use Rattle.mode_a.specs.declared.Owed.{Owed}
 use Rattle.mode_a.specs.declared.Peer.the-variants.{Four, Known}
 use Rattle.mode_a.specs.declared.Words.{Words}
 use Rattle.mode_a.specs.declared.Place.{Place}
@@ -19,17 +22,19 @@ use Rattle.mode_a.specs.declared.Place.the-variants.{Sending, Turning, Opening,
 use Rattle.mode_a.specs.declared.Offer.{Offer}
 use Rattle.mode_a.specs.declared.Station.{Station}
 use Rattle.mode_a.specs.declared.Doing.{Doing}
-use Rattle.mode_a.specs.declared.Doing.the-variants.{Repeats, Goes, Takes, Receives, Opens, Accepts, Rests, Answers, Listens, Reaches, Answers3, Bars, Ends, Turns, Meets, Again}
+use Rattle.mode_a.specs.declared.Doing.the-variants.{Repeats, Goes, Takes, Receives, Opens, Accepts, Rests, Answers, Listens, Reaches, Answers3, Bars, Ends, Turns, Meets, Again, Yields}
 use Rattle.mode_a.specs.declared.Reply.{Reply}
 use Rattle.mode_a.specs.Station.{same, marks, markOf, other}
 use Rattle.mode_a.specs.Heard.{First, Cs, Cs3, Rq, Else, Heard, firstOf, heardOf}
 use Rattle.mode_a.specs.Over.{listenedAll}
+use Rattle.mode_a.specs.Answerback.{blockOwed}
 use Rattle.mode_a.specs.Rows.{rowOf, callsOn, comparing, finishing, atStage, isLast}
-use Rattle.mode_a.specs.Step.{takes, knowing, isOver, done}
+use Rattle.mode_a.specs.Step.{takesOffer, takes, knowing, isOver, done}
 use Rattle.runs.specs.Places.{isSending}
 use Rattle.runs.specs.Runs.{isCall, isTaking, ofCs, taking}
 use Rattle.runs.proofs.RowLaws.{by-turning, by-ending, by-receiving, by-asking, by-standing, by-calling3, by-comparing, by-answering}
-use Rattle.runs.proofs.StepLaws.{Answers as Answered, by-repeat, by-again, by-meet, by-accept, by-listen}
+use Rattle.runs.proofs.CodeLaws.{isOwed}
+use Rattle.runs.proofs.StepLaws.{Answers as Answered, by-repeat, by-again, by-meet, by-owed, by-accept, by-listen}
 
 Is : Bool → Doing → Type 0
 Is t d = t ≡ isTaking d
@@ -109,7 +114,7 @@ takes-by-row own r (Answering g) h =
 Told : Bool → Reply → Type 0
 Told t r = (t && isSending (r .station .place)) ≡ (r .taken && isSending (r .station .place))
 
-by-offer : (s : Station) (n : Number) (o : Offer) → isCall o ≡ false → Told true (takes s n o)
+by-offer : (s : Station) (n : Number) (o : Offer) → isCall o ≡ false → Told true (takesOffer s n o)
 unfolding Told
 by-offer s n (Offer.Text w) c = refl
 by-offer s n Offer.Over c = refl
@@ -118,25 +123,64 @@ by-offer s n Offer.Nothing c = refl
 by-offer s n (Offer.Call i) c = absurd (true≢false c)
 by-offer s n (Offer.Call3 i) c = absurd (true≢false c)
 
-by-doing : (s : Station) (b : Words) (o : Offer) (d : Doing) → isCall o ≡ false → Told (isTaking d) (done s b o d)
-unfolding Told done
-by-doing s b o (Repeats w) c = by-repeat (Told false) s w (λ e. refl) (λ e. refl)
-by-doing s b o (Goes p w) c = refl
-by-doing s b o (Takes n) c = by-offer s n o c
-by-doing s b o (Receives n) c = refl
-by-doing s b o Opens c = refl
-by-doing s b o (Accepts n) c = by-accept (Told false) s n b (isOver o) (listenedAll (s .case) (s .plus) b) (λ u. sym (and-false u)) refl
-by-doing s b o (Rests n w) c = refl
-by-doing s b o Answers c = refl
-by-doing s b o (Listens w) c = by-listen (Told false) s w o (λ i e z. refl) (λ i e z. refl) refl
-by-doing s b o (Reaches p n) c = by-offer (knowing s p) n o c
-by-doing s b o Answers3 c = refl
-by-doing s b o (Bars i) c = refl
-by-doing s b o (Ends i) c = refl
-by-doing s b o (Turns i) c = refl
-by-doing s b o (Meets i) c = by-meet (Told false) (knowing s (Known i)) (isOver o) refl refl
-by-doing s b o (Again p w) c = by-again (Told false) s p w (λ e. refl) (λ e. refl)
+not-both : (w : Owed) → w ≡ Owed.Nothing → isOwed w ≡ true → ⊥
+not-both w e t = true≢false (sym t ∙ ap isOwed e)
 
-pub taken-as-reported : (s : Station) (b : Words) (o : Offer) (r : Reply) → Answered s b o r → isCall o ≡ false → (taking (s .place) (firstOf (b .0)) && isSending (r .station .place)) ≡ (r .taken && isSending (r .station .place))
+by-taking : (s : Station) (n : Number) (o : Offer) → s .owed ≡ Owed.Nothing → isCall o ≡ false → Told true (takes s n o)
+by-taking s n o w c = by-owed (Told true) s n o (λ e. by-offer s n o c) (λ t. absurd (not-both (s .owed) w t))
+
+by-doing : (s : Station) (b : Words) (o : Offer) (d : Doing) → s .owed ≡ Owed.Nothing → isCall o ≡ false → Told (isTaking d) (done s b o d)
+unfolding Told done
+by-doing s b o (Repeats w) n c = by-repeat (Told false) s w (λ e. refl) (λ e. refl)
+by-doing s b o (Goes p w) n c = refl
+by-doing s b o (Takes k) n c = by-taking s k o n c
+by-doing s b o (Receives k) n c = refl
+by-doing s b o Opens n c = refl
+by-doing s b o (Accepts k) n c = by-accept (Told false) s k b o (listenedAll (s .case) (s .plus) b) (λ w u. sym (and-false u)) refl
+by-doing s b o (Rests k w) n c = refl
+by-doing s b o Answers n c = refl
+by-doing s b o (Listens w) n c = by-listen (Told false) s w o (λ i e z. refl) (λ i e z. refl) refl
+by-doing s b o (Reaches p k) n c = by-taking (knowing s p) k o n c
+by-doing s b o Answers3 n c = refl
+by-doing s b o (Bars i) n c = refl
+by-doing s b o (Ends i) n c = refl
+by-doing s b o (Turns i) n c = refl
+by-doing s b o (Meets i) n c = by-meet (Told false) (knowing s (Known i)) (isOver o) refl refl
+by-doing s b o (Again p w) n c = by-again (Told false) s p w (λ e. refl) (λ e. refl)
+by-doing s b o (Yields k) n c = refl
+
+pub taken-as-reported : (s : Station) (b : Words) (o : Offer) (r : Reply) → Answered s b o r → s .owed ≡ Owed.Nothing → isCall o ≡ false → (taking (s .place) (firstOf (b .0)) && isSending (r .station .place)) ≡ (r .taken && isSending (r .station .place))
 unfolding Told heardOf
-taken-as-reported s b o r a c = rw (a .is-done, takes-by-row (s .own) (s .role) (s .place) (heardOf (s .own) b)) (by-doing s b o (rowOf (s .own) (s .role) (s .place) (heardOf (s .own) b)) c)
+taken-as-reported s b o r a n c = rw (a .is-done, takes-by-row (s .own) (s .role) (s .place) (heardOf (s .own) b)) (by-doing s b o (rowOf (s .own) (s .role) (s .place) (heardOf (s .own) b)) n c)
+
+-- the next block of the answer is held, and the offer waits, whatever is offered
+abbrev Waits : Station → Reply → Type 0
+Waits s r = ((n : Number) × (r .station .place ≡ Sending (record { number = n; block = blockOwed (s .own .code) (s .owed) }))) × (r .taken ≡ false)
+
+by-owing : (s : Station) (n : Number) (o : Offer) → isOwed (s .owed) ≡ true → Waits s (takes s n o)
+by-owing s n o t = by-owed (Waits s) s n o (λ e. absurd (not-both (s .owed) e t)) (λ u. ((n, refl), refl))
+
+waits : (s : Station) (b : Words) (o : Offer) (d : Doing) → isOwed (s .owed) ≡ true → isTaking d ≡ true → Waits s (done s b o d)
+unfolding done
+waits s b o (Repeats w) t i = absurd (true≢false (sym i))
+waits s b o (Goes p w) t i = absurd (true≢false (sym i))
+waits s b o (Takes n) t i = by-owing s n o t
+waits s b o (Receives n) t i = absurd (true≢false (sym i))
+waits s b o Opens t i = absurd (true≢false (sym i))
+waits s b o (Accepts n) t i = absurd (true≢false (sym i))
+waits s b o (Rests n w) t i = absurd (true≢false (sym i))
+waits s b o Answers t i = absurd (true≢false (sym i))
+waits s b o (Listens w) t i = absurd (true≢false (sym i))
+waits s b o (Reaches p n) t i = by-owing (knowing s p) n o t
+waits s b o Answers3 t i = absurd (true≢false (sym i))
+waits s b o (Bars x) t i = absurd (true≢false (sym i))
+waits s b o (Ends x) t i = absurd (true≢false (sym i))
+waits s b o (Turns x) t i = absurd (true≢false (sym i))
+waits s b o (Meets x) t i = absurd (true≢false (sym i))
+waits s b o (Again p w) t i = absurd (true≢false (sym i))
+waits s b o (Yields n) t i = absurd (true≢false (sym i))
+
+pub owed-unreported : (s : Station) (b : Words) (o : Offer) (r : Reply) → Answered s b o r → isOwed (s .owed) ≡ true → taking (s .place) (firstOf (b .0)) ≡ true → ((n : Number) × (r .station .place ≡ Sending (record { number = n; block = blockOwed (s .own .code) (s .owed) }))) × (r .taken ≡ false)
+unfolding heardOf
+owed-unreported s b o r a t i =
+    rw (a .is-done) (waits s b o (rowOf (s .own) (s .role) (s .place) (heardOf (s .own) b)) t (sym (takes-by-row (s .own) (s .role) (s .place) (heardOf (s .own) b)) ∙ i))

@@ -12,7 +12,7 @@ use Rattle.mode_a.specs.declared.Held.{Held}
 use Rattle.mode_a.specs.declared.Place.{Place}
 use Rattle.mode_a.specs.declared.Offer.{Offer}
 use Rattle.mode_a.specs.declared.Doing.{Doing}
-use Rattle.mode_a.specs.declared.Doing.the-variants.{Repeats, Goes, Takes, Receives, Opens, Accepts, Rests, Answers, Listens, Reaches, Answers3, Bars, Ends, Turns, Meets, Again}
+use Rattle.mode_a.specs.declared.Doing.the-variants.{Repeats, Goes, Takes, Receives, Opens, Accepts, Rests, Answers, Listens, Reaches, Answers3, Bars, Ends, Turns, Meets, Again, Yields}
 use Rattle.mode_a.specs.declared.Station.{Station}
 use Rattle.mode_a.specs.declared.Reply.{Reply}
 use Rattle.mode_a.specs.declared.Number.{Number}
@@ -153,6 +153,7 @@ isTaking (Ends i) = false
 isTaking (Turns i) = false
 isTaking (Meets i) = false
 isTaking (Again p w) = false
+isTaking (Yields n) = false
 
 -- "take the offer": Sending that hears the control signal of the other number, Opening that hears either, Calling that hears the same
 -- twice, Identifying that hears CS1 at its fourth stage  R-051, R-066, R-186, R-214

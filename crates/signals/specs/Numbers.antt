@@ -4,13 +4,16 @@
 --     3   a word that may not stand there: text offer (traffic, β),
 --         text for mode B (traffic), printing (traffic, 255)             index of the first
 --     4   station with count over 31, an Ending total not 1 to 4, or a
---         held word neither traffic nor β; receiver with a search run
+--         held word neither traffic nor β, or an owed block that the
+--         answer does not have (02, T-06); receiver with a search run
 --         over 3, or with a remaining wait over 3 (02, T-03)             0
 --     5   encoding: over 4,096 characters                                4,096
 --     6   mode B: slot past the last                                     number of slots
 --     7   over 8,192 signals for mode B or printing                      8,192
 --     8   call offered, own identity: a signal outside table 3a
 --         (02, T-02)                                                     index of the first
+--     9   answer-back code over 20 signals, with a word that is not
+--         traffic, or holding D in figures or an over (02, T-06)         0
 -- Which of them a call can give, and in which order it looks for them, stands with the call's own definition.
 -- Assumes nothing.
 use mathlib.Core.Bool.{Bool}

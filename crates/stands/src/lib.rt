@@ -1,9 +1,11 @@
-// How a station stands after a step (01, The station; 02, T-02 and T-05): at which place, with which count, case and +, and who is at the
-// other end; and a repetition, which the count is for. What no step changes, the own identities, is handed on as one piece.
+// How a station stands after a step (01, The station; 02, T-02, T-05 and T-06): at which place, with which count, case and +, who is at the
+// other end, and what is owed of an answer-back; and a repetition, which the count is for. What no step changes, the own identities and the
+// code, is handed on as one piece.
 ghost use mathlib.Core.Path.{_≡_};
-ghost use Rattle.mode_a.specs.Step.{standsAt, movedTo, cancelledTo, heardAt, leftAt, waitAt, rested, begun, knowing, sends, repeats, again};
+ghost use Rattle.mode_a.specs.Step.{standsAt, movedTo, cancelledTo, heardAt, leftAt, waitAt, rested, begun, knowing, owing, sends, repeats, again};
 use mode_a::Listening;
 use mode_a::Mark;
+use mode_a::Owed;
 use mode_a::Peer;
 use mode_a::Place;
 use mode_a::Reply;
@@ -21,6 +23,7 @@ fn stands_at(s: Station, place: Place, count: u8, case: Case, plus: bool) -> Sta
     let role = s.role;
     let own = s.own;
     let other = s.other;
+    let owed = s.owed;
     Station {
         role: role,
         place: place,
@@ -29,6 +32,7 @@ fn stands_at(s: Station, place: Place, count: u8, case: Case, plus: bool) -> Sta
         plus: plus,
         own: own,
         other: other,
+        owed: owed,
     }
 }
 
@@ -54,6 +58,41 @@ pub fn heard_at(s: Station, place: Place, l: Listening) -> Station
 {
     let case = l.case;
     stands_at(s, place, 0, case, l.plus)
+}
+
+// The station at a place, with count 0, a case and a + of its own; this is owed of an answer-back.
+fn owes_at(s: Station, place: Place, case: Case, plus: bool, owed: Owed) -> Station
+    ensures { λ r. ⌜ r ≡ owing (standsAt s place 0 case plus) owed ⌝ }
+{
+    let role = s.role;
+    let own = s.own;
+    let other = s.other;
+    Station {
+        role: role,
+        place: place,
+        count: 0,
+        case: case,
+        plus: plus,
+        own: own,
+        other: other,
+        owed: owed,
+    }
+}
+
+// The station at another place, with count 0; this is owed.
+pub fn owing_at(s: Station, place: Place, owed: Owed) -> Station
+    ensures { λ r. ⌜ r ≡ movedTo (owing s owed) place ⌝ }
+{
+    let case = s.case;
+    owes_at(s, place, case, s.plus, owed)
+}
+
+// The same, with what is kept of an accepted block.
+pub fn asked_at(s: Station, place: Place, l: Listening, owed: Owed) -> Station
+    ensures { λ r. ⌜ r ≡ owing (heardAt s place l) owed ⌝ }
+{
+    let case = l.case;
+    owes_at(s, place, case, l.plus, owed)
 }
 
 // Who is at the other end of a station that goes to Stand-by: nobody, but an identity that is barred stays so.
@@ -100,10 +139,11 @@ pub fn rested(s: Station, wait: u8) -> Station
         plus: s.plus,
         own: own,
         other: left_at(other),
+        owed: Owed::Nothing,
     }
 }
 
-// The station that places or answers a call: in letters case, with no + heard and nobody at the other end.
+// The station that places or answers a call: in letters case, with no + heard, nobody at the other end and nothing owed.
 pub fn begun(s: Station, role: Role, place: Place) -> Station
     ensures { λ r. ⌜ r ≡ begun s role place ⌝ }
 {
@@ -116,6 +156,7 @@ pub fn begun(s: Station, role: Role, place: Place) -> Station
         plus: false,
         own: own,
         other: Peer::Nobody,
+        owed: Owed::Nothing,
     }
 }
 
@@ -127,6 +168,7 @@ pub fn knowing(s: Station, other: Peer) -> Station
     let place = s.place;
     let case = s.case;
     let own = s.own;
+    let owed = s.owed;
     Station {
         role: role,
         place: place,
@@ -135,6 +177,7 @@ pub fn knowing(s: Station, other: Peer) -> Station
         plus: s.plus,
         own: own,
         other: other,
+        owed: owed,
     }
 }
 

@@ -21,6 +21,7 @@ use Rattle.mode_a.specs.declared.Own.{Own}
 use Rattle.mode_a.specs.Calls.{signalsOf}
 use Rattle.mode_a.specs.Station.{listOf}
 use Rattle.mode_a.specs.Heard.{mayHold, heardOf}
+use Rattle.mode_a.specs.Answerback.{passes}
 use Rattle.mode_a.specs.Rows.{rowOf}
 use Rattle.mode_a.specs.Step.{done, sound, offered, calledTo, stepping, Steps}
 use Rattle.table.specs.declared.Kind.{Kind}
@@ -96,12 +97,17 @@ module _ (s : Station) (b : Words) (o : Offer) (j : ℕ) (ej : j ≡ badCall (s 
     bad-station e = rw (call-good (s .own) o (rw ej at g), e) (refl, refl)
 
     module _ (e : sound s ≡ true) where
-      pub bad-word : (i : ℕ) → i ≡ badOffer o → i < 3 → Steps s b o (Stepped.BadWord i s)
+      pub bad-code : passes (s .own .code) ≡ false → Steps s b o (Stepped.BadCode s)
       unfolding stepping
-      bad-word i ei h =
-          let p = offer-bad o (rw ei at h) in
-          rw (call-good (s .own) o (rw ej at g), e, p .1, ← p .0, ← ei) (refl, refl)
+      bad-code k = rw (call-good (s .own) o (rw ej at g), e, k) (refl, refl)
 
-      pub step-done : (i : ℕ) → i ≡ badOffer o → 3 ≤ i → (r : Reply) → r ≡ done s b o (rowOf (s .own) (s .role) (s .place) (heardOf (s .own) b)) → Steps s b o (Stepped.Done r)
-      unfolding stepping
-      step-done i ei h r er = rw (call-good (s .own) o (rw ej at g), e, offer-good o (rw ei at h), ← er) (refl, refl)
+      module _ (k : passes (s .own .code) ≡ true) where
+        pub bad-word : (i : ℕ) → i ≡ badOffer o → i < 3 → Steps s b o (Stepped.BadWord i s)
+        unfolding stepping
+        bad-word i ei h =
+            let p = offer-bad o (rw ei at h) in
+            rw (call-good (s .own) o (rw ej at g), e, k, p .1, ← p .0, ← ei) (refl, refl)
+
+        pub step-done : (i : ℕ) → i ≡ badOffer o → 3 ≤ i → (r : Reply) → r ≡ done s b o (rowOf (s .own) (s .role) (s .place) (heardOf (s .own) b)) → Steps s b o (Stepped.Done r)
+        unfolding stepping
+        step-done i ei h r er = rw (call-good (s .own) o (rw ej at g), e, k, offer-good o (rw ei at h), ← er) (refl, refl)

@@ -1,4 +1,4 @@
-// One station of mode A: the step (01, The station; 02, T-02 and T-05; 001, 3.3 to 3.7).
+// One station of mode A: the step (01, The station; 02, T-02, T-05 and T-06; 001, 3.3 to 3.7).
 ghost use mathlib.Core.Path.{_≡_};
 ghost use Rattle.mode_a.specs.Step.{Steps};
 use mode_a::Offer;
@@ -6,8 +6,8 @@ use mode_a::Station;
 use mode_a::Stepped;
 use mode_a::Words;
 
-// One step of a station (01, The station; 02, T-02 and T-05; 001, 3.3 to 3.7): it hears `burst`, may take `offer`, and answers the new
-// station, the burst to send, up to three printed signals, and whether the offer was taken. Refuses 8, then 4, then 3, with the same
+// One step of a station (01, The station; 02, T-02, T-05 and T-06; 001, 3.3 to 3.7): it hears `burst`, may take `offer`, and answers the new
+// station, the burst to send, up to three printed signals, and whether the offer was taken. Refuses 8, then 4, then 9, then 3, with the same
 // station and nothing sent (01, Numbers returned).
 pub fn step(s: Station, burst: Words, offer: Offer) -> Stepped
     ensures { λ r. ⌜ Steps s burst offer r ⌝ }
@@ -18,6 +18,11 @@ pub fn step(s: Station, burst: Words, offer: Offer) -> Stepped
     }
     if !refusals::sound(s) {
         return Stepped::BadStation(s);
+    }
+    let whole = s.own;
+    let code = whole.code;
+    if !answerback::passes(code) {
+        return Stepped::BadCode(s);
     }
     let bad = refusals::bad_offer(offer);
     if bad < 3 {

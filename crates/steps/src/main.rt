@@ -3,6 +3,7 @@ use filters::Stream;
 use identity::Seven;
 use mode_a::Called;
 use mode_a::Called3;
+use mode_a::Code;
 use mode_a::Ended;
 use mode_a::Gathered;
 use mode_a::Held;
@@ -11,6 +12,7 @@ use mode_a::Identity;
 use mode_a::Mark;
 use mode_a::Number;
 use mode_a::Offer;
+use mode_a::Owed;
 use mode_a::Own;
 use mode_a::Peer;
 use mode_a::Place;
@@ -91,7 +93,7 @@ fn stage_of(byte: u8) -> Stage {
 }
 
 // The identity called, or what is gathered.
-fn signals_of(record: &[u8; 60]) -> Seven {
+fn signals_of(record: &[u8; 84]) -> Seven {
     Seven(
         record[49],
         record[50],
@@ -103,7 +105,7 @@ fn signals_of(record: &[u8; 60]) -> Seven {
     )
 }
 
-fn place_of(record: &[u8; 60]) -> Place {
+fn place_of(record: &[u8; 84]) -> Place {
     let number = number_of(record[2]);
     match record[1] % 12 {
         0 => Place::Sending(Held {
@@ -146,7 +148,7 @@ fn place_of(record: &[u8; 60]) -> Place {
     }
 }
 
-fn other_of(record: &[u8; 60]) -> Peer {
+fn other_of(record: &[u8; 84]) -> Peer {
     let seven = Seven(
         record[24],
         record[25],
@@ -164,7 +166,29 @@ fn other_of(record: &[u8; 60]) -> Peer {
     }
 }
 
-fn station_of(record: &[u8; 60]) -> Station {
+// The answer-back code: 20 words of it.
+fn code_of(record: &[u8; 84]) -> Code {
+    Code {
+        length: record[60],
+        first: Words(record[61], record[62], record[63]),
+        second: Words(record[64], record[65], record[66]),
+        third: Words(record[67], record[68], record[69]),
+        fourth: Words(record[70], record[71], record[72]),
+        fifth: Words(record[73], record[74], record[75]),
+        sixth: Words(record[76], record[77], record[78]),
+        seventh: Words(record[79], record[80], 0),
+    }
+}
+
+fn owed_of(record: &[u8; 84]) -> Owed {
+    match record[81] % 3 {
+        0 => Owed::Nothing,
+        1 => Owed::Back(record[82]),
+        _ => Owed::Keep(record[82]),
+    }
+}
+
+fn station_of(record: &[u8; 84]) -> Station {
     Station {
         role: role_of(record[0]),
         place: place_of(record),
@@ -182,12 +206,14 @@ fn station_of(record: &[u8; 60]) -> Station {
                 record[37],
                 record[38],
             ),
+            code: code_of(record),
         },
         other: other_of(record),
+        owed: owed_of(record),
     }
 }
 
-fn offer_of(record: &[u8; 60]) -> Offer {
+fn offer_of(record: &[u8; 84]) -> Offer {
     match record[13] % 6 {
         0 => Offer::Nothing,
         1 => Offer::Text(Words(record[14], record[15], record[16])),
@@ -498,29 +524,47 @@ fn put_told(line: &mut [u8], from: usize, s: Station) -> usize {
     put_words(line, at, last_three(other))
 }
 
+// What is owed of an answer.
+fn put_owed(line: &mut [u8], at: usize, owed: Owed) -> usize {
+    match owed {
+        Owed::Nothing => numbers::put_all(line, at, b" | none 0"),
+        Owed::Back(index) => {
+            let to = numbers::put_all(line, at, b" | back");
+            fields::put_number(line, to, index)
+        }
+        Owed::Keep(index) => {
+            let to = numbers::put_all(line, at, b" | keep");
+            fields::put_number(line, to, index)
+        }
+    }
+}
+
 fn put_reply(line: &mut [u8], reply: Reply) -> usize {
     let station = reply.station;
     let sent = reply.sent;
     let printed = reply.printed;
+    let owed = station.owed;
     let mut at = put_station(line, station);
     at = put_part(line, at, sent);
     at = put_part(line, at, printed);
     at = numbers::put_all(line, at, b" |");
     at = fields::put_flag(line, at, reply.taken);
     at = put_calls(line, at, station);
-    put_told(line, at, station)
+    at = put_told(line, at, station);
+    put_owed(line, at, owed)
 }
 
 fn put_answer(line: &mut [u8], stepped: Stepped) -> usize {
     match stepped {
         Stepped::Done(reply) => put_reply(line, reply),
         Stepped::BadStation(_) => filters::put_refusal(line, 0, 4, 0),
+        Stepped::BadCode(_) => filters::put_refusal(line, 0, 9, 0),
         Stepped::BadWord(index, _) => filters::put_refusal(line, 0, 3, index as u64),
         Stepped::BadCall(index, _) => filters::put_refusal(line, 0, 8, index as u64),
     }
 }
 
-fn answer(stream: Stream, output: &mut [u8], record: &[u8; 60]) -> Stream {
+fn answer(stream: Stream, output: &mut [u8], record: &[u8; 84]) -> Stream {
     let burst = Words(record[10], record[11], record[12]);
     let stepped = station::step(station_of(record), burst, offer_of(record));
     // no line comes to be full
@@ -532,10 +576,10 @@ fn answer(stream: Stream, output: &mut [u8], record: &[u8; 60]) -> Stream {
 
 // The next record read and answered. A short last one is ignored.
 fn turn(stream: Stream, input: &mut [u8], output: &mut [u8]) -> Stream {
-    let mut record = [0u8; 60];
-    let read = stream.record(input, output, &mut record, 60);
+    let mut record = [0u8; 84];
+    let read = stream.record(input, output, &mut record, 84);
     let after = read.stream;
-    if read.count != 60 {
+    if read.count != 84 {
         return after;
     }
     answer(after, output, &record)

@@ -34,7 +34,7 @@ use Rattle.mode_a.specs.declared.Own.{Own}
 use Rattle.mode_a.specs.declared.Place.{Place}
 use Rattle.mode_a.specs.declared.Place.the-variants.{Sending, Turning, Opening, Ending, Receiving, Asking, StandBy, Lost, Calling, Calling3, Identifying, Answering}
 use Rattle.mode_a.specs.declared.Doing.{Doing}
-use Rattle.mode_a.specs.declared.Doing.the-variants.{Repeats, Goes, Takes, Receives, Opens, Accepts, Rests, Answers, Listens, Reaches, Answers3, Bars, Ends, Turns, Meets, Again}
+use Rattle.mode_a.specs.declared.Doing.the-variants.{Repeats, Goes, Takes, Receives, Opens, Accepts, Rests, Answers, Listens, Reaches, Answers3, Bars, Ends, Turns, Meets, Again, Yields}
 use Rattle.mode_a.specs.Identification.{Told, nothing-told, block-1, block-2, block-3, toldIn}
 use Rattle.mode_a.specs.Station.{words, single, silence, βαβ, ααα, RQ×3, noSeven, other, asksFor}
 use Rattle.mode_a.specs.Heard.{First, Cs, Further, Cs4, Cs5, Letter, Other, Heard, furtherOf, firstOf, mayHold, isBlock, isWords, heardOf}
@@ -65,6 +65,7 @@ sign (Ends i) = 13
 sign (Turns i) = 14
 sign (Meets i) = 15
 sign (Again p w) = 16
+sign (Yields n) = 17
 
 abbrev placeIn : Doing → Place
 placeIn (Repeats w) = Lost
@@ -83,6 +84,7 @@ placeIn (Ends i) = Lost
 placeIn (Turns i) = Lost
 placeIn (Meets i) = Lost
 placeIn (Again p w) = p
+placeIn (Yields n) = Lost
 
 record Carried : Type 0 where
   waiting : Waiting

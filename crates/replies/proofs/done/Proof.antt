@@ -19,6 +19,7 @@ use Rattle.replies.proofs.opens.Reads as opens-reads
 use Rattle.replies.proofs.reaches.Reads as reaches-reads
 use Rattle.replies.proofs.receives.Reads as receives-reads
 use Rattle.replies.proofs.rests.Reads as rests-reads
+use Rattle.replies.proofs.yields.Reads as yields-reads
 use Rattle.stands.proofs.again.Reads as again-reads
 use Rattle.stands.proofs.repeats.Reads as repeats-reads
 
@@ -118,6 +119,12 @@ enum-known-doing-13 c = search needs
 again-requires : tie.Need-again-requires
 again-requires c κs = search needs
 
+enum-known-doing-14 : tie.Need-enum-known-doing-14
+enum-known-doing-14 c = search needs
+
+yields-requires : tie.Need-yields-requires
+yields-requires c κs = search needs
+
 returns : tie.Need-returns
 unfolding done
 returns c = simp (c .repeats .ensures, c .before .before .doing .given .1)
@@ -182,6 +189,10 @@ returns-16 : tie.Need-returns-16
 unfolding done
 returns-16 c = simp (c .again .ensures, c .before .before .doing13 .given .1)
 
+returns-17 : tie.Need-returns-17
+unfolding done
+returns-17 c = simp (c .yields .ensures, c .before .before .doing14 .given .1)
+
 pub done-spec : {M : Type 1} → statement M
 done-spec =
     tie.close
@@ -218,6 +229,8 @@ done-spec =
     meets-requires
     enum-known-doing-13
     again-requires
+    enum-known-doing-14
+    yields-requires
     returns
     returns-2
     returns-3
@@ -233,4 +246,5 @@ done-spec =
     returns-13
     returns-14
     returns-15
-    returns-16)
+    returns-16
+    returns-17)
