@@ -96,7 +96,7 @@ pub record Demand3 (c : Circuit) : Type 0 where
   pub opening-hears-no-cs3 : (e : Event) → Harmless e → c .hearer .place ≡ Opening → ¬ (firstOf (heard e (c .burst) .0) ≡ Cs3)
   pub refuses-only-offers : (e : Event) → InOrder (c .hearer .own) (e .offer) → isAnswered (said c e) ≡ true
 
--- of every run
+-- of every run, of two stations whose codes pass (02, T-06)  R-245
 abbrev pub OfEveryRun : Type 0
 OfEveryRun =
     (c : Circuit) → Starts c → CodesPass c → (run : Run) → AllHarmless run → NoCallPlaced c run → Demand3 (after c run)

@@ -28,12 +28,12 @@ unfolding stepping sound owedExists passes codeSignals holdsNeither done firstNo
 no-count-made-up r e p =
     let z : _≡_ {A = ℕ} 2 1 = sym e ∙ ap (λ (a : Answer Reply). stationAfter freshSlave a .count) (p .0) in omega arith
 
--- asking for block 1 once more
-abbrev asks : Answer Reply → Words
-asks (answered r) = r .sent
-asks (refused n v) = silence
+abbrev sentIn : Answer Reply → Words
+sentIn (answered r) = r .sent
+sentIn (refused n v) = silence
 
+-- CS1 once more
 pub no-last-repeat-sent : (r : Reply) → r .sent ≡ asksFor One → Steps (repeated 31) silence Offer.Nothing (Stepped.Done r) → ⊥
 unfolding stepping sound owedExists passes codeSignals holdsNeither done firstNot isBlock mayHold trafficOf meaningOf heardOf firstOf isWords
 no-last-repeat-sent r e p =
-    true≢false (sym (ap (λ (w : Words). isWords w (asksFor One)) e) ∙ ap (λ (a : Answer Reply). isWords (asks a) (asksFor One)) (p .0))
+    true≢false (sym (ap (λ (w : Words). isWords w (asksFor One)) e) ∙ ap (λ (a : Answer Reply). isWords (sentIn a) (asksFor One)) (p .0))

@@ -1,5 +1,5 @@
 -- 02, T-06: "sends its code, then two blocks of βββ, and turns back by an over of its own; if the over stood in the same block, it keeps the
--- direction" (001, 3.7.13.2). The code, which codes pass, and the blocks of an answer.  R-229, R-230, R-236, R-237, R-241, R-242
+-- direction" (001, 3.7.13.2). The code, which codes pass, and the blocks of an answer.  R-229, R-230, R-232, R-236, R-237, R-238, R-241, R-242
 -- Assumes nothing.
 use mathlib.Core.Bool.{Bool, true, false, not, _&&_}
 use mathlib.Core.List.{List, [], _∷_, _++_}
@@ -73,7 +73,8 @@ answerOf c Owed.Nothing = []
 answerOf c (Owed.Back i) = answerKeeping c ++ figures+? ∷ []
 answerOf c (Owed.Keep i) = answerKeeping c
 
--- the block that is owed next, and what is owed once it has been taken: the one behind it, or nothing after the last  R-238
+-- the block that is owed next, by its index, and what is owed once it has been taken: the one behind it, or nothing after the last
+-- R-230, R-238
 abbrev pub owedFrom : Owed → ℕ
 owedFrom Owed.Nothing = 0
 owedFrom (Owed.Back i) = i

@@ -1,7 +1,7 @@
 -- 01, The station: "The step has one row for each place and one column for each kind of burst."  R-047 to R-085; and 02, T-02 and T-05, for Stand-by and the places behind Lost, and T-06.
 --
 -- A row a place, in 01's order, with 01's words and 001's sections. `Repeats`: it stays and sends these; `Goes`: it goes to the
--- place and sends these; `Takes`: it takes the offer under the number; `Receives` and `Opens`: it goes to Receiving or Opening,
+-- place and sends these; `Takes`: it takes the offer, or what is owed of an answer, under the number; `Receives` and `Opens`: it goes to Receiving or Opening,
 -- which cancels a + heard; `Rests`: it goes to Stand-by and has so many steps to wait,
 -- or 128 where an identity is barred; `Yields`: it goes to Turning and sends βαβ, and what is owed of an answer is dropped; `Again`: it
 -- stays, stands so, and sends these, a repetition in identification. What these, the others and the count then do is Step.antt.

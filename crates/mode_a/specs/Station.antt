@@ -86,7 +86,7 @@ abbrev pub noCode : Code
 noCode =
     record { length = 0; first = silence; second = silence; third = silence; fourth = silence; fifth = silence; sixth = silence; seventh = silence }
 
--- a station without an identity, of four signals or of seven, and with the empty code  R-180, R-201
+-- a station without an identity, of four signals or of seven, and with the empty code  R-180, R-201, R-095, R-237
 abbrev pub noSeven : Seven
 noSeven = record { 0 = 0; 1 = 0; 2 = 0; 3 = 0; 4 = 0; 5 = 0; 6 = 0 }
 

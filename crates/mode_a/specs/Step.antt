@@ -273,7 +273,7 @@ done s b o (Yields n) = sends (movedTo (owing s Owed.Nothing) (Turning n)) βα�
 --         "8 also for a self-identity" (02, T-05): of the identity called, and then of the own one that identification tells       R-224
 --     4   "station with count over 31, an Ending total not 1 to 4, or a held word neither traffic nor β"      "0"                     R-129
 --         "01's test of it change" (02, T-06): an owed block that the answer does not have                                        R-241
---     9   "a code over 20 signals, with a word that isn't traffic, or holding D in figures or an over from   "0"                     R-242
+--     9   "a code over 20 signals, with a word that isn't traffic, or holding D in figures or an over from   0                       R-242
 --         either case, after 4" (02, T-06)
 --     3   "a word that may not stand there: text offer (traffic, β)"                                         "index of the first"    R-128
 -- All are judged at every place.

@@ -241,7 +241,7 @@ pub struct Gathered {
 }
 
 // The places, with what each carries. The moves between them:
-//   Opening    -> Sending      CS1 or CS2 first, the offer taken under that number;  -> Stand-by at CS3
+//   Opening    -> Sending      CS1 or CS2 first, the offer, or what is owed of an answer, taken under that number;  -> Stand-by at CS3
 //   Sending    -> Turning      CS3 first.      Sending, Opening -> Ending   where the offer taken is end
 //   Turning    -> Receiving    RQ RQ RQ (master), RQ first (slave).        Asking -> Opening   βαβ
 //   Receiving  -> Asking       a block accepted, and the over heard in it or offered, or D in figures in it;  -> Stand-by at ααα
@@ -324,7 +324,7 @@ pub enum Doing {
     Repeats(Words),
     // go to the place, and send these
     Goes(Place, Words),
-    // take the offer under the number
+    // take the offer, or the next block of an answer that is owed, under the number
     Takes(Number),
     // go to Receiving, await the number and ask for it; this cancels a + heard
     Receives(Number),
@@ -337,7 +337,7 @@ pub enum Doing {
     // at Stand-by: answer the call; place the call that is offered where it need not wait, or stay, this burst being kept
     Answers,
     Listens(Waiting),
-    // who is at the other end is known: take the offer under the number
+    // who is at the other end is known: take the offer, or what is owed, under the number
     Reaches(Peer, Number),
     // at Stand-by: answer the three-block call
     Answers3,
@@ -366,7 +366,7 @@ pub enum Stepped {
     Done(Reply),
     // 4: a count over 31, an Ending total not 1 to 4, a held word neither traffic nor β, or an owed block that the answer does not have
     BadStation(Station),
-    // 9: a code over 20 signals, with a word that is not traffic, or holding D in figures or an over
+    // 9: a code over 20 signals, with a word that is not traffic, or holding D in figures or an over from either case
     BadCode(Station),
     // 3: a word of the text offer neither traffic nor β; the index of the first
     BadWord(usize, Station),
@@ -377,7 +377,7 @@ pub enum Stepped {
 // What `answerback::with_code` answers: the station with its code, or a refusal with the same station.
 pub enum Coded {
     With(Station),
-    // 9: a code over 20 signals, with a word that is not traffic, or holding D in figures or an over
+    // 9: a code over 20 signals, with a word that is not traffic, or holding D in figures or an over from either case
     BadCode(Station),
 }
 

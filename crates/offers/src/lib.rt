@@ -4,10 +4,12 @@ ghost use mathlib.Core.Path.{_≡_};
 ghost use mathlib.Core.Bool.{_&&_};
 ghost use Prim.Native.Nat.{_-_};
 ghost use lib.Dec.{leb};
-ghost use Rattle.mode_a.specs.Step.{holds, takesOffer, takesOwed, takes, called, called3, waitsOn, bars, listens};
+ghost use Rattle.mode_a.specs.Step.{takesOffer, called, called3, waitsOn, bars, listens};
+ghost use Rattle.offers.specs.Goes.{blockOffered, nextOffered, nextOwed, nextOf, takesNext};
 use identity::Seven;
 use mode_a::Called;
 use mode_a::Called3;
+use mode_a::Code;
 use mode_a::Ended;
 use mode_a::Held;
 use mode_a::Identity;
@@ -28,20 +30,13 @@ const OVER: Words = Words(signals::FIGURES, acceptance::CROSS, acceptance::QUERY
 
 const BETAS: Words = Words(signals::BETA, signals::BETA, signals::BETA);
 
-// The block is held under the number, and sent.
-fn holds(s: Station, number: Number, block: Words, taken: bool) -> Reply
-    ensures { λ r. ⌜ r ≡ holds s number block taken ⌝ }
-{
-    let held = Held {
-        number: number,
-        block: block,
-    };
-    Reply {
-        station: stands::moved_to(s, Place::Sending(held)),
-        sent: block,
-        printed: mode_a::SILENCE,
-        taken: taken,
-    }
+// What goes next: the block that is held and sent, whether the offer is taken, and what is owed behind it; or the end, and then nothing
+// else of it is looked at.
+pub struct Going {
+    pub block: Words,
+    pub taken: bool,
+    pub ends: bool,
+    pub behind: Owed,
 }
 
 // End is taken under the number: ααα is sent, once so far.
@@ -60,28 +55,78 @@ fn ends(s: Station, number: Number) -> Reply
     }
 }
 
-// The offer is taken under the number. A call is not taken: βββ is sent, as where nothing is offered.
-fn takes_offer(s: Station, number: Number, offer: Offer) -> Reply
-    ensures { λ r. ⌜ r ≡ takesOffer s number offer ⌝ }
+// A block of the offer: nothing is owed behind it.
+fn block_offered(block: Words, taken: bool) -> Going
+    ensures { λ r. ⌜ r ≡ blockOffered block taken ⌝ }
 {
-    match offer {
-        Offer::Text(block) => holds(s, number, block, true),
-        Offer::Over => holds(s, number, OVER, true),
-        Offer::End => ends(s, number),
-        Offer::Nothing => holds(s, number, BETAS, true),
-        Offer::Call(_) => holds(s, number, BETAS, false),
-        Offer::Call3(_) => holds(s, number, BETAS, false),
+    Going {
+        block: block,
+        taken: taken,
+        ends: false,
+        behind: Owed::Nothing,
     }
 }
 
-// The next block of the answer-back is taken under the number, and the offer waits.
-fn takes_owed(s: Station, number: Number, owed: Owed) -> Reply
-    ensures { λ r. ⌜ r ≡ takesOwed s number owed ⌝ }
+// The offer goes. A call is not taken: βββ is sent, as where nothing is offered.
+fn next_offered(offer: Offer) -> Going
+    ensures { λ r. ⌜ r ≡ nextOffered offer ⌝ }
+{
+    match offer {
+        Offer::Text(block) => block_offered(block, true),
+        Offer::Over => block_offered(OVER, true),
+        Offer::End => Going {
+            block: BETAS,
+            taken: true,
+            ends: true,
+            behind: Owed::Nothing,
+        },
+        Offer::Nothing => block_offered(BETAS, true),
+        Offer::Call(_) => block_offered(BETAS, false),
+        Offer::Call3(_) => block_offered(BETAS, false),
+    }
+}
+
+// The next block of the answer-back goes, and the offer waits.
+fn next_owed(code: Code, owed: Owed) -> Going
+    ensures { λ r. ⌜ r ≡ nextOwed code owed ⌝ }
+{
+    Going {
+        block: owed::block(code, owed),
+        taken: false,
+        ends: false,
+        behind: owed::then(code, owed),
+    }
+}
+
+fn code_of(s: Station) -> Code
+    ensures { λ r. ⌜ r ≡ s .own .code ⌝ }
 {
     let own = s.own;
-    let code = own.code;
-    let block = owed::block(code, owed);
-    let behind = owed::then(code, owed);
+    own.code
+}
+
+// What is owed goes before the offer. It is told apart from `takes`: each of the two is small enough for the compiler to put it into both its
+// callers, so that no answer is built in memory and copied.
+pub fn next(s: Station, offer: Offer) -> Going
+    ensures { λ r. ⌜ r ≡ nextOf (s .own .code) (s .owed) offer ⌝ }
+{
+    let owed = s.owed;
+    match owed {
+        Owed::Nothing => next_offered(offer),
+        Owed::Back(_) => next_owed(code_of(s), owed),
+        Owed::Keep(_) => next_owed(code_of(s), owed),
+    }
+}
+
+// What goes next is taken under the number.
+pub fn takes(s: Station, number: Number, next: Going) -> Reply
+    ensures { λ r. ⌜ r ≡ takesNext s number next ⌝ }
+{
+    if next.ends {
+        return ends(s, number);
+    }
+    let block = next.block;
+    let behind = next.behind;
     let held = Held {
         number: number,
         block: block,
@@ -90,19 +135,7 @@ fn takes_owed(s: Station, number: Number, owed: Owed) -> Reply
         station: stands::owing_at(s, Place::Sending(held), behind),
         sent: block,
         printed: mode_a::SILENCE,
-        taken: false,
-    }
-}
-
-// What is owed goes before the offer.
-pub fn takes(s: Station, number: Number, offer: Offer) -> Reply
-    ensures { λ r. ⌜ r ≡ takes s number offer ⌝ }
-{
-    let owed = s.owed;
-    match owed {
-        Owed::Nothing => takes_offer(s, number, offer),
-        Owed::Back(_) => takes_owed(s, number, owed),
-        Owed::Keep(_) => takes_owed(s, number, owed),
+        taken: next.taken,
     }
 }
 

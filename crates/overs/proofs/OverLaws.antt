@@ -9,6 +9,7 @@
 --     back-exactly, keep-exactly   an answer-back is owed, with an over of its own behind it exactly where D stands in figures and no over is
 --                             heard in the block, without exactly where both are
 --     over-taken-exactly      an over that is offered is taken exactly where no D stands in figures
+--     coded-exactly           all of these of a fresh station that was given a code, whatever the code
 --     standing-exactly, standing-asks-exactly   all of these of a station made at Stand-by, which may be called
 --     who-heard-exactly       what the step hears of D in a block, accepted or not, is what the lists tell
 --     case-of-direction       the case that a station keeps
@@ -29,6 +30,7 @@ use Rattle.signals.specs.Meaning.{beta}
 use Rattle.mode_a.specs.declared.Role.{Role}
 use Rattle.mode_a.specs.declared.Role.the-variants.{Master, Slave}
 use Rattle.mode_a.specs.declared.Own.{Own}
+use Rattle.mode_a.specs.declared.Code.{Code}
 use Rattle.mode_a.specs.declared.Owed.{Owed}
 use Rattle.mode_a.specs.declared.Place.{Place}
 use Rattle.mode_a.specs.declared.Place.the-variants.{Asking}
@@ -36,7 +38,7 @@ use Rattle.mode_a.specs.declared.Station.{Station}
 use Rattle.mode_a.specs.declared.Listening.{Listening}
 use Rattle.mode_a.specs.Station.{listOf, freshAt}
 use Rattle.mode_a.specs.Over.{query, cross, keeping, listenedAll}
-use Rattle.mode_a.specs.Step.{isOver, owedFor}
+use Rattle.mode_a.specs.Step.{isOver, owedFor, coded}
 use Rattle.runs.specs.Places.{placeNo, isReceiving}
 use Rattle.runs.specs.Runs.{Event, Run, start, _▷_, said, next, after, isAnswered, isTaken}
 use Rattle.runs.proofs.OwedLaws.{owingAt, owes-there-run}
@@ -279,6 +281,12 @@ module _ (role : Role) (run : Run) (e : Event) (a : isAccepted (after (fresh rol
   -- "an over offered then counts as taken"; "an over at the block with D too, waits"
   pub over-taken-exactly : (isTaken (said (after (fresh role) run) e) ≡ true) ↔ ((isOver (e .offer) ≡ true) × (¬ WhoIn role run e))
   over-taken-exactly = by-role role run e a .over-taken
+
+-- 02, T-06: the same of a fresh station that was given a code. A code that does not pass makes every step a refusal, so no block is
+-- accepted with it
+pub coded-exactly : (role : Role) (k : Code) (run : Run) (e : Event) → isAccepted (after (coded (fresh role) k) run) e ≡ true → Exactly Letters (coded (fresh role) k) run e
+coded-exactly Master k = from-fresh (coded (fresh Master) k) refl refl refl
+coded-exactly Slave k = from-fresh (coded (fresh Slave) k) refl refl refl
 
 -- 02, T-02, T-05 and T-06: the same of a station at Stand-by with its identities and its code, which may be called
 pub standing-exactly : (own : Own) (run : Run) (e : Event) → isAccepted (after (freshAt own) run) e ≡ true → Exactly Letters (freshAt own) run e

@@ -57,7 +57,7 @@ use Rattle.mode_a.specs.Identification.{identityBlock, toldIn}
 use Rattle.mode_a.specs.Heard.{Cs, Cs3, Else, Cs4, Letter, mayHold, isWords, callOf, call3Of}
 use Rattle.mode_a.specs.Answerback.{passes, blockOwed, owedThen, owedExists}
 use Rattle.mode_a.specs.Rows.{requests, callsOn, calling, standBy, allHeard, heardThen, callsOn3, calling3, identifying, sameBlock, hearing, isLast}
-use Rattle.mode_a.specs.Step.{movedTo, cancelledTo, sends, takes, isOver, heardAt, owing, accepts, repeats, again, rested, begun, listens, knowing, meets, ends, turns, unidentified, sound, done}
+use Rattle.mode_a.specs.Step.{movedTo, cancelledTo, sends, isOver, heardAt, owing, accepts, repeats, again, rested, begun, listens, knowing, meets, ends, turns, unidentified, sound, done}
 use Rattle.table.specs.declared.Kind.{Kind}
 use Rattle.table.specs.declared.Action.{Action}
 use Rattle.table.specs.Kinds.{kindOf, columnOf}
@@ -65,6 +65,8 @@ use Rattle.table.specs.Actions.{actionOf}
 use Rattle.carried.specs.Carried.{numberIn, blockIn, totalIn, waitingIn, calledIn, called3In, identifiedIn, gatheredIn}
 use Rattle.moves.specs.Moves.{asked, endsAgain, ended}
 use Rattle.doings.specs.Doings.{doingOf}
+use Rattle.offers.specs.declared.Going.{Going}
+use Rattle.offers.specs.Goes.{nextOf, takesNext}
 use Rattle.refusals.specs.Parts.{badOffer, badCall}
 
 -- `signals::rows`: that there are 35 rows is the answer's type, `[Row; 35]`, and `Rows` says what each is
@@ -295,15 +297,18 @@ block-unique code w r r′ p q = unique p q
 pub then-unique : (code : Code) (w : Owed) (r r′ : Owed) → r ≡ owedThen code w → r′ ≡ owedThen code w → r ≡ r′
 then-unique code w r r′ p q = unique p q
 
--- `acceptance::is_over`, `acceptance::accepts`; `offers::takes`, `offers::listens`
+-- `acceptance::is_over`, `acceptance::accepts`; `offers::next`, `offers::takes`, `offers::listens`
 pub is-over-unique : (o : Offer) (r r′ : Bool) → r ≡ isOver o → r′ ≡ isOver o → r ≡ r′
 is-over-unique o r r′ p q = unique p q
 
 pub accepts-unique : (s : Station) (n : Number) (b : Words) (o : Offer) (r r′ : Reply) → r ≡ accepts s n b o → r′ ≡ accepts s n b o → r ≡ r′
 accepts-unique s n b o r r′ p q = unique p q
 
-pub takes-unique : (s : Station) (n : Number) (o : Offer) (r r′ : Reply) → r ≡ takes s n o → r′ ≡ takes s n o → r ≡ r′
-takes-unique s n o r r′ p q = unique p q
+pub next-unique : (s : Station) (o : Offer) (r r′ : Going) → r ≡ nextOf (s .own .code) (s .owed) o → r′ ≡ nextOf (s .own .code) (s .owed) o → r ≡ r′
+next-unique s o r r′ p q = unique p q
+
+pub takes-unique : (s : Station) (n : Number) (x : Going) (r r′ : Reply) → r ≡ takesNext s n x → r′ ≡ takesNext s n x → r ≡ r′
+takes-unique s n x r r′ p q = unique p q
 
 pub listens-unique : (s : Station) (w : Waiting) (o : Offer) (r r′ : Reply) → r ≡ listens s w o → r′ ≡ listens s w o → r ≡ r′
 listens-unique s w o r r′ p q = unique p q

@@ -76,7 +76,8 @@ fn yields(s: Station, number: Number) -> Reply
 fn reaches(s: Station, other: Peer, number: Number, offer: Offer) -> Reply
     ensures { λ r. ⌜ r ≡ takes (knowing s other) number offer ⌝ }
 {
-    offers::takes(stands::knowing(s, other), number, offer)
+    let next = offers::next(s, offer);
+    offers::takes(stands::knowing(s, other), number, next)
 }
 
 // The answer of the station `s` that hears the burst `b` and is offered `offer`. It refuses nothing: `station::step` judges before.
@@ -86,7 +87,7 @@ pub fn done(s: Station, b: Words, offer: Offer, doing: Doing) -> Reply
     match doing {
         Doing::Repeats(words) => stands::repeats(s, words),
         Doing::Goes(place, words) => goes(s, place, words),
-        Doing::Takes(number) => offers::takes(s, number, offer),
+        Doing::Takes(number) => offers::takes(s, number, offers::next(s, offer)),
         Doing::Receives(number) => receives(s, number),
         Doing::Opens => opens(s),
         Doing::Accepts(number) => acceptance::accepts(s, number, b, offer),

@@ -2,13 +2,15 @@
 --     takes-by-row        the test of a place and a first word is that of the row
 --     taken-as-reported   where nothing is owed, of every offer but a call: a block is taken exactly where the answer says so and the
 --                         station is at Sending
+--     text-reported-is-held   a text that the answer reports as taken is held at Sending, and sent
 --     owed-unreported     where a part of an answer-back is owed: a row that takes has its next block held, and reports no offer as taken
 -- Assumes nothing.
 use mathlib.Core.Path.{_≡_, refl, ap, sym, _∙_}
-use mathlib.Core.Bool.{Bool, true, false, not, _&&_, and-false, true≢false}
+use mathlib.Core.Bool.{Bool, true, false, not, _&&_, and-false, true≢false, false≢true}
 use Prim.Native.Nat.{ℕ}
 use lib.Dec.{leb}
 use Rattle.laws.specs.Choice.{if_then_else_}
+use Rattle.signals.specs.Numbers.{answered}
 use Rattle.mode_a.specs.declared.Role.{Role}
 use Rattle.mode_a.specs.declared.Number.{Number}
 use Rattle.mode_a.specs.declared.Number.the-variants.{One, Two}
@@ -29,12 +31,12 @@ use Rattle.mode_a.specs.Heard.{First, Cs, Cs3, Rq, Else, Heard, firstOf, heardO
 use Rattle.mode_a.specs.Over.{listenedAll}
 use Rattle.mode_a.specs.Answerback.{blockOwed}
 use Rattle.mode_a.specs.Rows.{rowOf, callsOn, comparing, finishing, atStage, isLast}
-use Rattle.mode_a.specs.Step.{takesOffer, takes, knowing, isOver, done}
+use Rattle.mode_a.specs.Step.{takesOffer, takes, acceptsBy, knowing, isOver, done, stepping}
 use Rattle.runs.specs.Places.{isSending}
 use Rattle.runs.specs.Runs.{isCall, isTaking, ofCs, taking}
 use Rattle.runs.proofs.RowLaws.{by-turning, by-ending, by-receiving, by-asking, by-standing, by-calling3, by-comparing, by-answering}
 use Rattle.runs.proofs.CodeLaws.{isOwed}
-use Rattle.runs.proofs.StepLaws.{Answers as Answered, by-repeat, by-again, by-meet, by-owed, by-accept, by-listen}
+use Rattle.runs.proofs.StepLaws.{Answers as Answered, answers, by-repeat, by-again, by-meet, by-owed, by-heard, by-accept, by-listen}
 
 Is : Bool → Doing → Type 0
 Is t d = t ≡ isTaking d
@@ -152,6 +154,43 @@ by-doing s b o (Yields k) n c = refl
 pub taken-as-reported : (s : Station) (b : Words) (o : Offer) (r : Reply) → Answered s b o r → s .owed ≡ Owed.Nothing → isCall o ≡ false → (taking (s .place) (firstOf (b .0)) && isSending (r .station .place)) ≡ (r .taken && isSending (r .station .place))
 unfolding Told heardOf
 taken-as-reported s b o r a n c = rw (a .is-done, takes-by-row (s .own) (s .role) (s .place) (heardOf (s .own) b)) (by-doing s b o (rowOf (s .own) (s .role) (s .place) (heardOf (s .own) b)) n c)
+
+-- a text that is reported as taken is held, with a number, and sent
+abbrev TextHeld : Words → Reply → Type 0
+TextHeld w r =
+    r .taken ≡ true → ((n : Number) × (r .station .place ≡ Sending (record { number = n; block = w }))) × (r .sent ≡ w)
+
+text-taken : (s : Station) (n : Number) (w : Words) → TextHeld w (takes s n (Offer.Text w))
+text-taken s n w = by-owed (TextHeld w) s n (Offer.Text w) (λ e t. ((n, refl), refl)) (λ e t. absurd (false≢true t))
+
+text-held : (s : Station) (b : Words) (w : Words) (d : Doing) → TextHeld w (done s b (Offer.Text w) d)
+unfolding done
+text-held s b w (Repeats x) t = by-repeat (TextHeld w) s x (λ e u. absurd (false≢true u)) (λ e u. absurd (false≢true u)) t
+text-held s b w (Goes p x) t = absurd (false≢true t)
+text-held s b w (Takes n) t = text-taken s n w t
+text-held s b w (Receives n) t = absurd (false≢true t)
+text-held s b w Opens t = absurd (false≢true t)
+text-held s b w (Accepts n) t =
+    by-heard (TextHeld w) s n b (Offer.Text w) (listenedAll (s .case) (s .plus) b) (λ e u. absurd (false≢true u)) (λ e. go (listenedAll (s .case) (s .plus) b .over)) t
+  where
+    go : (v : Bool) → TextHeld w (acceptsBy s n b false (record { case = listenedAll (s .case) (s .plus) b .case; plus = listenedAll (s .case) (s .plus) b .plus; over = v; asked = listenedAll (s .case) (s .plus) b .asked }))
+    go true u = absurd (false≢true u)
+    go false u = absurd (false≢true u)
+text-held s b w (Rests n x) t = absurd (false≢true t)
+text-held s b w Answers t = absurd (false≢true t)
+text-held s b w (Listens x) t = absurd (false≢true t)
+text-held s b w (Reaches p n) t = text-taken (knowing s p) n w t
+text-held s b w Answers3 t = absurd (false≢true t)
+text-held s b w (Bars i) t = absurd (false≢true t)
+text-held s b w (Ends i) t = absurd (false≢true t)
+text-held s b w (Turns i) t = absurd (false≢true t)
+text-held s b w (Meets i) t = absurd (false≢true t)
+text-held s b w (Again p x) t = by-again (TextHeld w) s p x (λ e u. absurd (false≢true u)) (λ e u. absurd (false≢true u)) t
+text-held s b w (Yields n) t = absurd (false≢true t)
+
+pub text-reported-is-held : (s : Station) (b : Words) (w : Words) (r : Reply) → stepping s b (Offer.Text w) ≡ answered r → r .taken ≡ true → ((n : Number) × (r .station .place ≡ Sending (record { number = n; block = w }))) × (r .sent ≡ w)
+text-reported-is-held s b w r e =
+    rw (answers s b (Offer.Text w) r e .is-done) (text-held s b w (rowOf (s .own) (s .role) (s .place) (heardOf (s .own) b)))
 
 -- the next block of the answer is held, and the offer waits, whatever is offered
 abbrev Waits : Station → Reply → Type 0

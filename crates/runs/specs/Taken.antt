@@ -1,4 +1,4 @@
--- 01, How the promises are judged: "the blocks taken from the other's offers"; 02, T-06: "The code's blocks, the two of βββ and the station's
+-- Demand 3: "the blocks taken from the other's offers"; 02, T-06: "The code's blocks, the two of βββ and the station's
 -- own over count among blocks taken from that station's offers in demand 3".  R-172, R-245
 -- Assumes nothing.
 use mathlib.Core.Bool.{Bool, _&&_}

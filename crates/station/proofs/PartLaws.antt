@@ -18,10 +18,11 @@ use Rattle.mode_a.specs.declared.Reply.{Reply}
 use Rattle.mode_a.specs.declared.Doing.{Doing}
 use Rattle.mode_a.specs.declared.Stepped.{Stepped}
 use Rattle.mode_a.specs.declared.Own.{Own}
+use Rattle.mode_a.specs.declared.Code.{Code}
 use Rattle.mode_a.specs.Calls.{signalsOf}
 use Rattle.mode_a.specs.Station.{listOf}
 use Rattle.mode_a.specs.Heard.{mayHold, heardOf}
-use Rattle.mode_a.specs.Answerback.{passes}
+use Rattle.mode_a.specs.Answerback.{codeSignals, holdsNeither, passes}
 use Rattle.mode_a.specs.Rows.{rowOf}
 use Rattle.mode_a.specs.Step.{done, sound, offered, calledTo, stepping, Steps}
 use Rattle.table.specs.declared.Kind.{Kind}
@@ -38,6 +39,11 @@ done-by-row s b o k ek a ea d ed r er =
     er
     ∙ ap (done s b o)
     (ed ∙ ap (λ (x : Action). doingOf x (s .role) (s .place) (s .own) b) (ea ∙ ap (actionOf (s .place)) ek) ∙ rows-agree (s .role) (s .place) (s .own) b)
+
+-- a code without a signal passes
+pub passes-empty : (c : Code) → c .length ≡ 0 → true ≡ passes c
+unfolding passes codeSignals holdsNeither firstNot
+passes-empty c e = rw e
 
 -- an offer that may not stand, and one that may
 offer-bad : (o : Offer) → badOffer o < 3 → (badOffer o ≡ firstNot mayHold (offered o)) × (ltb (firstNot mayHold (offered o)) (length (offered o)) ≡ true)

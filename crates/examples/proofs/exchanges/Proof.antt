@@ -10,7 +10,7 @@ pub exchanges-spec : {M : Type 1} → statement M
 exchanges-spec =
     tie.close
     (tie.spec
-    (λ line₀ about call told pair₀ number₀ damaged₀ end line pair number damaged. (length line ≡ length line₀) × (end ≤ 255))
-    (λ line₀ about call told pair₀ number₀ damaged₀ end line pair number damaged. end - number)
+    (λ line₀ about call told pair₀ number₀ damaged₀ end text line pair number damaged. (length line ≡ length line₀) × (end ≤ 255))
+    (λ line₀ about call told pair₀ number₀ damaged₀ end text line pair number damaged. end - number)
     (search needs) (λ c κs. search needs) (λ c κs. search needs) (λ c κs. search needs) (search needs)
     (search needs) (search needs) (search needs) (search needs))

@@ -1,5 +1,6 @@
 -- `replies::done` meets its contract. Assumes nothing.
 use Rattle.mode_a.specs.Step.{done}
+use Rattle.offers.proofs.NextLaws.{takes-next}
 use borrow.Author.Needs.{needs}
 use Rattle.replies.proofs.done.Statement.{statement}
 use Rattle.replies.proofs.done.Tie as tie
@@ -12,6 +13,7 @@ use Rattle.meeting.proofs.ends.Reads as ends-reads
 use Rattle.meeting.proofs.meets.Reads as meets-reads
 use Rattle.meeting.proofs.turns.Reads as turns-reads
 use Rattle.offers.proofs.listens.Reads as listens-reads
+use Rattle.offers.proofs.next.Reads as next-reads
 use Rattle.offers.proofs.takes.Reads as takes-reads
 use Rattle.replies.proofs.answers.Reads as answers-reads
 use Rattle.replies.proofs.goes.Reads as goes-reads
@@ -37,6 +39,9 @@ goes-requires c κs = search needs
 
 enum-known-doing-3 : tie.Need-enum-known-doing-3
 enum-known-doing-3 c = search needs
+
+next-requires : tie.Need-next-requires
+next-requires c κs = search needs
 
 takes-requires : tie.Need-takes-requires
 takes-requires c κs = search needs
@@ -135,7 +140,9 @@ returns-2 c = simp (c .goes .ensures, c .before .before .doing2 .given .1)
 
 returns-3 : tie.Need-returns-3
 unfolding done
-returns-3 c = simp (c .takes .ensures, c .before .before .doing3 .given .1)
+returns-3 c =
+    let a = c .before .before .before .before .before .args in
+    rw (c .takes .ensures, c .before .next .ensures, c .before .before .before .doing3 .given .1) (takes-next (a .s) _ (a .offer))
 
 returns-4 : tie.Need-returns-4
 unfolding done
@@ -202,6 +209,7 @@ done-spec =
     enum-known-doing-2
     goes-requires
     enum-known-doing-3
+    next-requires
     takes-requires
     enum-known-doing-4
     receives-requires

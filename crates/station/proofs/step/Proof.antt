@@ -9,7 +9,6 @@ use Rattle.station.proofs.step.Statement.{statement}
 use Rattle.station.proofs.step.Tie as tie
 use Rattle.station.proofs.step.Reads as reads
 use Rattle.station.proofs.step.Lts as lts
-use Rattle.answerback.proofs.passes.Reads as passes-reads
 use Rattle.doings.proofs.doing.Reads as doing-reads
 use Rattle.refusals.proofs.bad_call.Reads as bad-call-reads
 use Rattle.refusals.proofs.bad_offer.Reads as bad-offer-reads
@@ -17,6 +16,7 @@ use Rattle.refusals.proofs.sound.Reads as sound-reads
 use Rattle.replies.proofs.done.Reads as done-reads
 use Rattle.table.proofs.action_at.Reads as action-at-reads
 use Rattle.table.proofs.kind_of.Reads as kind-of-reads
+use Rattle.station.proofs.code_passes.Reads as code-passes-reads
 
 bad-call-requires : tie.Need-bad-call-requires
 bad-call-requires c κs = search needs
@@ -34,21 +34,21 @@ returns-2 c =
     let a = c .before .before .before .before in
     bad-station (a .args .s) (a .args .burst) (a .args .offer) (c .before .before .before .bad-call .result) (c .before .before .before .bad-call .ensures) (c .before .before .if1 .left) (sym (c .before .sound .ensures) ∙ not-true _ (c .if2 .taken))
 
-passes-requires : tie.Need-passes-requires
-passes-requires c κs = search needs
+code-passes-requires : tie.Need-code-passes-requires
+code-passes-requires c κs = search needs
 
 returns-3 : tie.Need-returns-3
 returns-3 c =
-    let a = c .before .before .before .before .before .before .before .before in
-    bad-code (a .args .s) (a .args .burst) (a .args .offer) (c .before .before .before .before .before .before .before .bad-call .result) (c .before .before .before .before .before .before .before .bad-call .ensures) (c .before .before .before .before .before .before .if1 .left) (sym (c .before .before .before .before .before .sound .ensures) ∙ not-false _ (c .before .before .before .before .if2 .left)) (sym (c .before .passes .ensures) ∙ not-true _ (c .if3 .taken))
+    let a = c .before .before .before .before .before .before in
+    bad-code (a .args .s) (a .args .burst) (a .args .offer) (c .before .before .before .before .before .bad-call .result) (c .before .before .before .before .before .bad-call .ensures) (c .before .before .before .before .if1 .left) (sym (c .before .before .before .sound .ensures) ∙ not-false _ (c .before .before .if2 .left)) (sym (c .before .code-passes .ensures) ∙ not-true _ (c .if3 .taken))
 
 bad-offer-requires : tie.Need-bad-offer-requires
 bad-offer-requires c κs = search needs
 
 returns-4 : tie.Need-returns-4
 returns-4 c =
-    let a = c .before .before .before .before .before .before .before .before .before .before in
-    bad-word (a .args .s) (a .args .burst) (a .args .offer) (c .before .before .before .before .before .before .before .before .before .bad-call .result) (c .before .before .before .before .before .before .before .before .before .bad-call .ensures) (c .before .before .before .before .before .before .before .before .if1 .left) (sym (c .before .before .before .before .before .before .before .sound .ensures) ∙ not-false _ (c .before .before .before .before .before .before .if2 .left)) (sym (c .before .before .before .passes .ensures) ∙ not-false _ (c .before .before .if3 .left)) (c .before .bad-offer .result) (c .before .bad-offer .ensures) (omega (arith, c .if4 .taken))
+    let a = c .before .before .before .before .before .before .before .before in
+    bad-word (a .args .s) (a .args .burst) (a .args .offer) (c .before .before .before .before .before .before .before .bad-call .result) (c .before .before .before .before .before .before .before .bad-call .ensures) (c .before .before .before .before .before .before .if1 .left) (sym (c .before .before .before .before .before .sound .ensures) ∙ not-false _ (c .before .before .before .before .if2 .left)) (sym (c .before .before .before .code-passes .ensures) ∙ not-false _ (c .before .before .if3 .left)) (c .before .bad-offer .result) (c .before .bad-offer .ensures) (omega (arith, c .if4 .taken))
 
 kind-of-requires : tie.Need-kind-of-requires
 kind-of-requires c κs = search needs
@@ -64,8 +64,8 @@ done-requires c κs = search needs
 
 returns-5 : tie.Need-returns-5
 returns-5 c =
-    let a = c .before .before .before .before .before .before .before .before .before .before .before .before .before .before .before in
-    step-done (a .args .s) (a .args .burst) (a .args .offer) (c .before .before .before .before .before .before .before .before .before .before .before .before .before .before .bad-call .result) (c .before .before .before .before .before .before .before .before .before .before .before .before .before .before .bad-call .ensures) (c .before .before .before .before .before .before .before .before .before .before .before .before .before .if1 .left) (sym (c .before .before .before .before .before .before .before .before .before .before .before .before .sound .ensures) ∙ not-false _ (c .before .before .before .before .before .before .before .before .before .before .before .if2 .left)) (sym (c .before .before .before .before .before .before .before .before .passes .ensures) ∙ not-false _ (c .before .before .before .before .before .before .before .if3 .left)) (c .before .before .before .before .before .before .bad-offer .result) (c .before .before .before .before .before .before .bad-offer .ensures) (c .before .before .before .before .before .if4 .left) (c .done .result)
+    let a = c .before .before .before .before .before .before .before .before .before .before .before .before .before in
+    step-done (a .args .s) (a .args .burst) (a .args .offer) (c .before .before .before .before .before .before .before .before .before .before .before .before .bad-call .result) (c .before .before .before .before .before .before .before .before .before .before .before .before .bad-call .ensures) (c .before .before .before .before .before .before .before .before .before .before .before .if1 .left) (sym (c .before .before .before .before .before .before .before .before .before .before .sound .ensures) ∙ not-false _ (c .before .before .before .before .before .before .before .before .before .if2 .left)) (sym (c .before .before .before .before .before .before .before .before .code-passes .ensures) ∙ not-false _ (c .before .before .before .before .before .before .before .if3 .left)) (c .before .before .before .before .before .before .bad-offer .result) (c .before .before .before .before .before .before .bad-offer .ensures) (c .before .before .before .before .before .if4 .left) (c .done .result)
     (done-by-row (a .args .s) (a .args .burst) (a .args .offer) (c .before .before .before .before .kind-of .result) (c .before .before .before .before .kind-of .ensures) (c .before .before .before .action-at .result) (c .before .before .before .action-at .ensures) (c .before .doing .result) (c .before .doing .ensures) (c .done .result) (c .done .ensures))
 
 pub step-spec : {M : Type 1} → statement M
@@ -76,7 +76,7 @@ step-spec =
     returns
     sound-requires
     returns-2
-    passes-requires
+    code-passes-requires
     returns-3
     bad-offer-requires
     returns-4
