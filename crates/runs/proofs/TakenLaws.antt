@@ -23,6 +23,7 @@ use Rattle.mode_a.specs.declared.Place.{Place}
 use Rattle.mode_a.specs.declared.Place.the-variants.{Sending, Turning, Opening, Ending, Receiving, Asking, StandBy, Lost, Calling, Calling3, Identifying, Answering}
 use Rattle.mode_a.specs.declared.Offer.{Offer}
 use Rattle.mode_a.specs.declared.Station.{Station}
+use Rattle.mode_a.specs.declared.Listening.{Listening}
 use Rattle.mode_a.specs.declared.Doing.{Doing}
 use Rattle.mode_a.specs.declared.Doing.the-variants.{Repeats, Goes, Takes, Receives, Opens, Accepts, Rests, Answers, Listens, Reaches, Answers3, Bars, Ends, Turns, Meets, Again, Yields}
 use Rattle.mode_a.specs.declared.Reply.{Reply}
@@ -31,7 +32,7 @@ use Rattle.mode_a.specs.Heard.{First, Cs, Cs3, Rq, Else, Heard, firstOf, heardO
 use Rattle.mode_a.specs.Over.{listenedAll}
 use Rattle.mode_a.specs.Answerback.{blockOwed}
 use Rattle.mode_a.specs.Rows.{rowOf, callsOn, comparing, finishing, atStage, isLast}
-use Rattle.mode_a.specs.Step.{takesOffer, takes, acceptsBy, knowing, isOver, done, stepping}
+use Rattle.mode_a.specs.Step.{takesOffer, takes, acceptsBy, acceptsHeard, knowing, isOver, done, stepping}
 use Rattle.runs.specs.Places.{isSending}
 use Rattle.runs.specs.Runs.{isCall, isTaking, ofCs, taking}
 use Rattle.runs.proofs.RowLaws.{by-turning, by-ending, by-receiving, by-asking, by-standing, by-calling3, by-comparing, by-answering}
@@ -163,19 +164,22 @@ TextHeld w r =
 text-taken : (s : Station) (n : Number) (w : Words) → TextHeld w (takes s n (Offer.Text w))
 text-taken s n w = by-owed (TextHeld w) s n (Offer.Text w) (λ e t. ((n, refl), refl)) (λ e t. absurd (false≢true t))
 
-text-held : (s : Station) (b : Words) (w : Words) (d : Doing) → TextHeld w (done s b (Offer.Text w) d)
+text-unaccepted : (s : Station) (n : Number) (b w : Words) (l : Listening) → TextHeld w (acceptsHeard s n b (Offer.Text w) l)
+text-unaccepted s n b w l =
+    by-heard (TextHeld w) s n b (Offer.Text w) l (λ e t. absurd (false≢true t)) (λ e. go (l .over))
+  where
+    go : (u : Bool) → TextHeld w (acceptsBy s n b false (record { case = l .case; plus = l .plus; over = u; asked = l .asked }))
+    go true t = absurd (false≢true t)
+    go false t = absurd (false≢true t)
+
+text-held : (s : Station) (b w : Words) (d : Doing) → TextHeld w (done s b (Offer.Text w) d)
 unfolding done
 text-held s b w (Repeats x) t = by-repeat (TextHeld w) s x (λ e u. absurd (false≢true u)) (λ e u. absurd (false≢true u)) t
 text-held s b w (Goes p x) t = absurd (false≢true t)
 text-held s b w (Takes n) t = text-taken s n w t
 text-held s b w (Receives n) t = absurd (false≢true t)
 text-held s b w Opens t = absurd (false≢true t)
-text-held s b w (Accepts n) t =
-    by-heard (TextHeld w) s n b (Offer.Text w) (listenedAll (s .case) (s .plus) b) (λ e u. absurd (false≢true u)) (λ e. go (listenedAll (s .case) (s .plus) b .over)) t
-  where
-    go : (v : Bool) → TextHeld w (acceptsBy s n b false (record { case = listenedAll (s .case) (s .plus) b .case; plus = listenedAll (s .case) (s .plus) b .plus; over = v; asked = listenedAll (s .case) (s .plus) b .asked }))
-    go true u = absurd (false≢true u)
-    go false u = absurd (false≢true u)
+text-held s b w (Accepts n) t = text-unaccepted s n b w (listenedAll (s .case) (s .plus) b) t
 text-held s b w (Rests n x) t = absurd (false≢true t)
 text-held s b w Answers t = absurd (false≢true t)
 text-held s b w (Listens x) t = absurd (false≢true t)
@@ -188,6 +192,8 @@ text-held s b w (Meets i) t = absurd (false≢true t)
 text-held s b w (Again p x) t = by-again (TextHeld w) s p x (λ e u. absurd (false≢true u)) (λ e u. absurd (false≢true u)) t
 text-held s b w (Yields n) t = absurd (false≢true t)
 
+-- "Text gives that block", and no place takes a text in another way: not at Receiving, nor at Stand-by, nor while a part of an answer-back is
+-- owed  R-054, R-238
 pub text-reported-is-held : (s : Station) (b : Words) (w : Words) (r : Reply) → stepping s b (Offer.Text w) ≡ answered r → r .taken ≡ true → ((n : Number) × (r .station .place ≡ Sending (record { number = n; block = w }))) × (r .sent ≡ w)
 text-reported-is-held s b w r e =
     rw (answers s b (Offer.Text w) r e .is-done) (text-held s b w (rowOf (s .own) (s .role) (s .place) (heardOf (s .own) b)))

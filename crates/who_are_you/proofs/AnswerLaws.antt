@@ -2,6 +2,7 @@
 -- each block that it takes is the first of these, and the last one leaves nothing owed.
 --     question-turns   a block with D in figures is printed, CS3 turns the direction, and the answer is owed
 --     only-asked       nothing else makes an answer owed
+--     held-is-taken    the blocks that are taken here are those that demand 3 counts as taken from the offers
 --     whole-answer     then the answer's blocks are taken in order, to the last, unless CS3 cuts it
 --     offers-wait      and while something is owed no offer is taken
 --     cs3-drops        CS3 at Sending drops what is owed
@@ -20,23 +21,27 @@ use Rattle.signals.specs.Numbers.{Answer, answered, refused}
 use Rattle.mode_a.specs.declared.Words.{Words}
 use Rattle.mode_a.specs.declared.Code.{Code}
 use Rattle.mode_a.specs.declared.Own.{Own}
+use Rattle.mode_a.specs.declared.Number.{Number}
 use Rattle.mode_a.specs.declared.Owed.{Owed}
 use Rattle.mode_a.specs.declared.Offer.{Offer}
 use Rattle.mode_a.specs.declared.Station.{Station}
 use Rattle.mode_a.specs.declared.Listening.{Listening}
+use Rattle.mode_a.specs.declared.Doing.{Doing}
+use Rattle.mode_a.specs.declared.Doing.the-variants.{Repeats, Goes, Takes, Receives, Opens, Accepts, Rests, Answers, Listens, Reaches, Answers3, Bars, Ends, Turns, Meets, Again, Yields}
 use Rattle.mode_a.specs.declared.Reply.{Reply}
 use Rattle.mode_a.specs.Heard.{First, Cs, Cs3, Rq, Else, firstOf, heardOf}
 use Rattle.mode_a.specs.Over.{listenedAll}
 use Rattle.mode_a.specs.Answerback.{βββ, answerOf, owedFrom, blockOwed, owedBehind, owedThen, owedExists}
-use Rattle.mode_a.specs.Rows.{sending}
-use Rattle.mode_a.specs.Step.{owedFor, done, stationAfter}
+use Rattle.mode_a.specs.Rows.{rowOf, sending}
+use Rattle.mode_a.specs.Step.{takesOffer, takes, knowing, owedFor, done, stationAfter}
 use Rattle.runs.specs.Places.{isSending, isOpening, isAsking, isLost}
-use Rattle.runs.specs.Runs.{Event, Run, start, _▷_, said, next, after, isTaken, taking}
-use Rattle.runs.specs.Taken.{blockFrom, takenBy}
+use Rattle.runs.specs.Runs.{Event, Run, start, _▷_, said, next, after, isTaken, isTaking, taking}
+use Rattle.runs.specs.Taken.{blockFrom, takenIf}
 use Rattle.runs.proofs.CodeLaws.{isOwed, owed-for-exists}
 use Rattle.runs.proofs.OwedLaws.{only-asked as unasked, owingAt, OwesThere, owes-there-run}
-use Rattle.runs.proofs.StepLaws.{answers, own-stays, own-lasts}
-use Rattle.who_are_you.specs.Answers.{asks, QuestionTurns, OnlyAsked, takenAt, takenIn, isCs3, cuts, Uncut, Progress, under-way, whole, WholeAnswer, OffersWait, Cut, Cs3Drops}
+use Rattle.runs.proofs.StepLaws.{answers, by-owed, own-stays, own-lasts}
+use Rattle.runs.proofs.TakenLaws.{takes-by-row}
+use Rattle.who_are_you.specs.Answers.{asks, QuestionTurns, OnlyAsked, heldAt, takenAt, takenIn, HeldIsTaken, isCs3, cuts, Uncut, Progress, under-way, whole, WholeAnswer, OffersWait, Cut, Cs3Drops}
 use Rattle.who_are_you.proofs.OwingLaws.{asked-turns, Moves, owes-on, takes-one, is-cut, owing-moves}
 
 pub question-turns : QuestionTurns
@@ -53,15 +58,62 @@ question-turns s e r a t =
 pub only-asked : OnlyAsked
 only-asked s e r a n t = unasked s (e .burst) (e .offer) r a n t
 
+-- What is held after a row that takes: the block owed, where an answer is owed, else that of the offer.
+abbrev HeldAsTaken : Station → Offer → Bool → Reply → Type 0
+HeldAsTaken s o t r = (if t then heldAt (r .station .place) else []) ≡ takenIf t s o r
+
+block-owed : (c : Code) (w : Owed) (o : Offer) → isOwed w ≡ true → blockFrom c w o ≡ blockOwed c w ∷ []
+block-owed c Owed.Nothing o u = absurd (true≢false (sym u))
+block-owed c (Owed.Back i) o u = refl
+block-owed c (Owed.Keep i) o u = refl
+
+held-of-takes : (s : Station) (n : Number) (o : Offer) → HeldAsTaken s o true (takes s n o)
+held-of-takes s n o = by-owed (HeldAsTaken s o true) s n o (of-offer o) (λ t. sym (block-owed (s .own .code) (s .owed) o t))
+  where
+    of-offer : (o : Offer) → s .owed ≡ Owed.Nothing → HeldAsTaken s o true (takesOffer s n o)
+    of-offer (Offer.Text w) e = rw e
+    of-offer Offer.Over e = rw e
+    of-offer Offer.End e = refl
+    of-offer Offer.Nothing e = rw e
+    of-offer (Offer.Call i) e = rw e
+    of-offer (Offer.Call3 i) e = rw e
+
+held-of-row : (s : Station) (b : Words) (o : Offer) (d : Doing) → HeldAsTaken s o (isTaking d) (done s b o d)
+unfolding done
+held-of-row s b o (Repeats w) = refl
+held-of-row s b o (Goes p w) = refl
+held-of-row s b o (Takes n) = held-of-takes s n o
+held-of-row s b o (Receives n) = refl
+held-of-row s b o Opens = refl
+held-of-row s b o (Accepts n) = refl
+held-of-row s b o (Rests n w) = refl
+held-of-row s b o Answers = refl
+held-of-row s b o (Listens w) = refl
+held-of-row s b o (Reaches p n) = held-of-takes (knowing s p) n o
+held-of-row s b o Answers3 = refl
+held-of-row s b o (Bars i) = refl
+held-of-row s b o (Ends i) = refl
+held-of-row s b o (Turns i) = refl
+held-of-row s b o (Meets i) = refl
+held-of-row s b o (Again p w) = refl
+held-of-row s b o (Yields n) = refl
+
+pub held-is-taken : HeldIsTaken
+unfolding heardOf
+held-is-taken s e r a =
+    let d = rowOf (s .own) (s .role) (s .place) (heardOf (s .own) (e .burst)) in
+    rw (answers s (e .burst) (e .offer) r a .is-done, takes-by-row (s .own) (s .role) (s .place) (heardOf (s .own) (e .burst))) (held-of-row s (e .burst) (e .offer) d)
+
 pub cs3-drops : Cs3Drops
 unfolding done heardOf
 cs3-drops s h e r a p c = go (firstOf (e .burst .0)) refl c
   where
-    go : (f : First) → firstOf (e .burst .0) ≡ f → isCs3 f ≡ true → Cut h r
+    go : (f : First) → firstOf (e .burst .0) ≡ f → isCs3 f ≡ true → Cut h (firstOf (e .burst .0)) r
     go (Cs n) i t = absurd (true≢false (sym t))
     go Cs3 i t =
         let d : r ≡ done s (e .burst) (e .offer) (sending h Cs3) = answers s (e .burst) (e .offer) r a .is-done ∙ rw (p, i) in
         record {
+          confirms-the-block = rw i;
           goes-to-turning = ap (λ (r : Reply). r .station .place) d;
           sends-βαβ = ap (λ (r : Reply). r .sent) d;
           takes-no-offer = ap (λ (r : Reply). r .taken) d;
@@ -143,21 +195,15 @@ module _ (c : Code) (answer taken : List Words) (s : Station) where
       go (was-last l) =
           inr ([], sym (append-nil answer ∙ more ∙ ap (λ (l : List Words). (taken ++ blockOwed c (s .owed) ∷ []) ++ l) (drop-of-length-le answer (rw (o .of-this) at l)) ∙ append-nil (taken ++ blockOwed c (s .owed) ∷ [])))
 
--- what a step takes, where a block of an answer is owed
-block-owed : (c : Code) (w : Owed) (o : Offer) → isOwed w ≡ true → blockFrom c w o ≡ blockOwed c w ∷ []
-block-owed c Owed.Nothing o u = absurd (true≢false (sym u))
-block-owed c (Owed.Back i) o u = refl
-block-owed c (Owed.Keep i) o u = refl
-
 state-step : (answer taken : List Words) (s : Station) (e : Event) → cuts s e ≡ false → State (s .own .code) answer taken s → State (s .own .code) answer (taken ++ takenAt s e (said s e)) (next s e)
 state-step answer taken s e n (inr b) =
     inr (b .0 ++ takenAt s e (said s e), ap (λ (l : List Words). l ++ takenAt s e (said s e)) (b .1) ∙ append-assoc answer (b .0) (takenAt s e (said s e)))
 state-step answer taken s e n (inl o) = go (said s e) refl
   where
-    by-move : (r : Reply) → Moves s (taking (s .place) (firstOf (e .burst .0))) (cuts s e) r → State (s .own .code) answer (taken ++ takenBy s (e .burst) (e .offer) r) (r .station)
+    by-move : (r : Reply) → Moves s (taking (s .place) (firstOf (e .burst .0))) (cuts s e) r → State (s .own .code) answer (taken ++ takenAt s e (answered r)) (r .station)
     by-move r (owes-on w p t u) = rw t (inl (none-taken (s .own .code) answer taken s (r .station) w p o))
     by-move r (takes-one w q p t u) =
-        rw (t, q, block-owed (s .own .code) (s .owed) (e .offer) (o .is-owed)) (one-taken (s .own .code) answer taken s (r .station) w p o)
+        rw (t, q) (one-taken (s .own .code) answer taken s (r .station) w p o)
     by-move r (is-cut t w u) = absurd (true≢false (sym t ∙ n))
 
     go : (x : Answer Reply) → said s e ≡ x → State (s .own .code) answer (taken ++ takenAt s e x) (stationAfter s x)

@@ -6,9 +6,12 @@
 --     plus-kept-at-the-end       a code that ends in + leaves a + kept at the far end, which the operator's own ? completes where the
 --                                direction is kept
 --     d-behind-letters-passes    a code that begins with D passes where a letters shift stands before it
+--     code-of-20-passes          a code of 20 signals passes, and a station is given it
+--     code-given-in-traffic      a station that is given a code in the midst of traffic: all its fields are as they were, but the code, and it
+--                                owes nothing
 --     answer-is-reached          the premises of the whole answer are met by a run that takes all of it
 --     answer-is-cut              and where CS3 comes the block held is the last one that was taken
---     answer-is-heard            the premises of no answer to answers are met by a station that accepts all of an answer
+--     answer-is-heard            the premises of no answer to answers are met by a station that accepts all of an answer, with its over
 -- Assumes nothing.
 use mathlib.Core.Path.{_≡_, refl, _∙_}
 use mathlib.Core.Bool.{Bool, true, false, not, _&&_, _||_, and-false, and-eq-true-iff}
@@ -18,13 +21,13 @@ use borrow.Author.Tests.{not-true}
 use Rattle.signals.specs.declared.Case.the-variants.{Figures}
 use Rattle.signals.specs.Meaning.{meaningOf, trafficOf, wordNo, letters, figures, beta, cs1, cs2, cs3}
 use Rattle.signals.specs.Numbers.{Answer, answered, refused, firstNot}
-use Rattle.mode_a.specs.declared.Role.the-variants.{Slave}
+use Rattle.mode_a.specs.declared.Role.the-variants.{Master, Slave}
 use Rattle.mode_a.specs.declared.Number.{Number}
 use Rattle.mode_a.specs.declared.Number.the-variants.{One, Two}
 use Rattle.mode_a.specs.declared.Words.{Words}
 use Rattle.mode_a.specs.declared.Code.{Code}
 use Rattle.mode_a.specs.declared.Owed.{Owed}
-use Rattle.mode_a.specs.declared.Peer.the-variants.{Nobody}
+use Rattle.mode_a.specs.declared.Peer.the-variants.{Nobody, Known}
 use Rattle.mode_a.specs.declared.Place.{Place}
 use Rattle.mode_a.specs.declared.Place.the-variants.{Sending, Turning, Opening, Receiving, Asking}
 use Rattle.mode_a.specs.declared.Offer.{Offer}
@@ -38,9 +41,8 @@ use Rattle.mode_a.specs.Answerback.{codeSignals, holdsNeither, passes, βββ, 
 use Rattle.mode_a.specs.Step.{sends, trafficIn, owedFor, done, sound, stepping, coded, coding, Codes}
 use Rattle.runs.specs.Places.{isSending, isOpening, isReceiving}
 use Rattle.runs.specs.Runs.{Event, Run, start, _▷_, said, after, isTaken}
-use Rattle.runs.specs.Taken.{takenBy}
-use Rattle.who_are_you.specs.Answers.{asks, takenIn, isCs3, Uncut}
-use Rattle.who_are_you.specs.Quiet.{acceptedAt, acceptedIn, StaysReceiving}
+use Rattle.who_are_you.specs.Answers.{asks, takenAt, takenIn, isCs3, Uncut}
+use Rattle.who_are_you.specs.Quiet.{acceptedOf, acceptedBlocks, StaysReceiving}
 
 -- T E A; a burst heard, and that text offered
 abbrev pub tea : Words
@@ -69,15 +71,15 @@ pub record SoFar (s : Station) (run : Run) (t : Station) (sent : List Words) (re
   pub sent-are : sentIn s run ≡ sent
   pub reported-are : reportedIn s run ≡ reported
   pub taken-are : takenIn s run ≡ taken
-  pub accepted-are : acceptedIn s run ≡ accepted
+  pub accepted-are : acceptedBlocks s run ≡ accepted
 
 begin : (s : Station) → SoFar s start s [] [] [] []
-unfolding takenIn acceptedIn
+unfolding takenIn acceptedBlocks
 begin s = record { after-is = refl; sent-are = refl; reported-are = refl; taken-are = refl; accepted-are = refl }
 
 module _ {s : Station} {run : Run} {t : Station} {sent : List Words} {reported : List Bool} {taken accepted : List Words} where
-  then-to : (r : Reply) (e : Event) → SoFar s run t sent reported taken accepted → said t e ≡ answered r → SoFar s (run ▷ e) (r .station) (sent ++ r .sent ∷ []) (reported ++ r .taken ∷ []) (taken ++ takenBy t (e .burst) (e .offer) r) (accepted ++ acceptedAt t e (answered r))
-  unfolding takenIn acceptedIn
+  then-to : (r : Reply) (e : Event) → SoFar s run t sent reported taken accepted → said t e ≡ answered r → SoFar s (run ▷ e) (r .station) (sent ++ r .sent ∷ []) (reported ++ r .taken ∷ []) (taken ++ takenAt t e (answered r)) (accepted ++ acceptedOf t e (answered r))
+  unfolding takenIn acceptedBlocks
   then-to r e f a = record {
     after-is = rw (f .after-is, a);
     sent-are = rw (f .after-is, a, f .sent-are);
@@ -131,6 +133,10 @@ code-2 = words letters (wordNo 1) beta
 abbrev pub set : Station
 set = coded freshSlave code
 
+-- the code "figures +"
+abbrev pub codePlus : Code
+codePlus = codeOf 2 (words figures cross 0) silence
+
 code-given : Codes freshSlave code (Coded.With set)
 unfolding coding passes codeSignals holdsNeither firstNot trafficOf meaningOf listened
 code-given = (refl, refl)
@@ -138,6 +144,40 @@ code-given = (refl, refl)
 pub d-behind-letters-passes : passes (codeOf 2 (words letters who 0) silence) ≡ true
 unfolding passes codeSignals holdsNeither firstNot trafficOf meaningOf listened
 d-behind-letters-passes = refl
+
+-- so many times A
+abbrev pub aaa : Words
+aaa = words (wordNo 1) (wordNo 1) (wordNo 1)
+
+abbrev pub codeA : ℕ → Code
+codeA n = record { length = n; first = aaa; second = aaa; third = aaa; fourth = aaa; fifth = aaa; sixth = aaa; seventh = aaa }
+
+pub code-of-20-passes : (passes (codeA 20) ≡ true) × Codes freshSlave (codeA 20) (Coded.With (coded freshSlave (codeA 20)))
+unfolding coding passes codeSignals holdsNeither firstNot trafficOf meaningOf listened
+code-of-20-passes = (refl, (refl, refl))
+
+-- in the midst of traffic: a master that holds a block, has repeated it five times, has both identities and knows who is at the other end, with
+-- figures case and a + kept of the direction that it received; given a code while it owes
+abbrev pub busy : Code → Owed → Station
+busy k w =
+    record {
+      role = Master;
+      place = holding Two tea;
+      count = 5;
+      case = Figures;
+      plus = true;
+      own = record {
+        four = record { 0 = wordNo 17; 1 = wordNo 3; 2 = wordNo 22; 3 = wordNo 24 };
+        seven = record { 0 = 45; 1 = 86; 2 = 71; 3 = 85; 4 = 83; 5 = 114; 6 = 43 };
+        code = k;
+      };
+      other = Known (record { 0 = 45; 1 = 86; 2 = 71; 3 = 85; 4 = 83; 5 = 114; 6 = 39 });
+      owed = w;
+    }
+
+pub code-given-in-traffic : Codes (busy codePlus (Owed.Back 1)) code (Coded.With (busy code Owed.Nothing))
+unfolding coding passes codeSignals holdsNeither firstNot trafficOf meaningOf listened
+code-given-in-traffic = (refl, refl)
 
 -- the question, and what it is answered by: CS3, and the answer owed
 abbrev pub question : Words
@@ -219,14 +259,11 @@ empty-code-answers =
     let s3 = then-to (sends (at noCode (holding Two βββ) (Owed.Back 2)) βββ) (hears (single cs2)) s2 refl in
     then-to (sends (at noCode (holding One figures+?) Owed.Nothing) figures+?) (hears (single cs1)) s3 refl
 
--- the code "figures +", and its answer where the direction is kept
-abbrev pub codePlus : Code
-codePlus = codeOf 2 (words figures cross 0) silence
-
+-- the answer of the code "figures +", where the direction is kept
 abbrev pub plusHeard : Run
 plusHeard = start ▷ hears (words figures cross beta) ▷ hears βββ ▷ hears βββ
 
-pub plus-passes : (passes codePlus ≡ true) × (answerOf codePlus (Owed.Keep 0) ≡ answerKeeping codePlus) × (answerKeeping codePlus ≡ words figures cross beta ∷ βββ ∷ βββ ∷ [])
+pub plus-passes : (passes codePlus ≡ true) × (answerOf codePlus (Owed.Keep 0) ≡ words figures cross beta ∷ βββ ∷ βββ ∷ []) × (answerOf codePlus (Owed.Back 0) ≡ words figures cross beta ∷ βββ ∷ βββ ∷ figures+? ∷ [])
 unfolding passes codeSignals holdsNeither firstNot trafficOf meaningOf listened answerOf answerKeeping
 plus-passes = (refl, refl, refl)
 
@@ -252,5 +289,9 @@ unfolding stepping sound owedExists passes codeSignals holdsNeither done firstNo
 plus-kept-at-the-end =
     then-to (turned noCode Owed.Nothing (words query 0 0)) (hears (words query beta beta)) (plus-kept .0) refl
 
-pub answer-is-heard : StaysReceiving freshSlave plusHeard × (answerKeeping codePlus ≡ acceptedIn freshSlave plusHeard ++ [])
-answer-is-heard = (plus-kept .1, plus-passes .2 ∙ rw (plus-kept .0 .accepted-are))
+-- and where the direction is turned back the answer's own over
+pub answer-is-heard : StaysReceiving freshSlave (plusHeard ▷ hears figures+?) × (answerOf codePlus (Owed.Back 0) ≡ acceptedBlocks freshSlave (plusHeard ▷ hears figures+?) ++ [])
+unfolding stepping sound owedExists passes codeSignals holdsNeither done firstNot isBlock mayHold trafficOf meaningOf heardOf firstOf isWords listened trafficIn blockOwed owedThen answerOf answerKeeping
+answer-is-heard =
+    let over = then-to (turned noCode Owed.Nothing figures+?) (hears figures+?) (plus-kept .0) refl in
+    (then-receiving (hears figures+?) (plus-kept .0) refl (plus-kept .1), plus-passes .2 ∙ rw (over .accepted-are))

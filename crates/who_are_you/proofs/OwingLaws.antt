@@ -1,11 +1,12 @@
 -- One step, as far as an answer is concerned (02, T-06).
 --     is-receiving         a place with the number of Receiving carries what Receiving does
 --     asked-turns          the block with D: CS3, and the answer owed from its first block on
---     Moves, owing-moves   what one step of a station that owes does: nothing is taken and it goes on owing, the block owed is taken and the
+--     Moves, owing-moves   what one step of a station that owes does: nothing is taken and it goes on owing, the block owed is held and the
 --                          next is owed, or CS3 cuts the answer; and no offer is taken
 -- Assumes nothing.
 use mathlib.Core.Path.{_≡_, refl, sym, _∙_}
 use mathlib.Core.Bool.{Bool, true, false, not, _&&_, _||_, true≢false, and-eq-true-iff}
+use mathlib.Core.List.{[], _∷_}
 use Rattle.laws.specs.Choice.{if_then_else_}
 use Rattle.signals.specs.Numbers.{answered}
 use Rattle.mode_a.specs.declared.Number.{Number}
@@ -22,7 +23,7 @@ use Rattle.mode_a.specs.declared.Reply.{Reply}
 use Rattle.mode_a.specs.Station.{same, other}
 use Rattle.mode_a.specs.Heard.{First, Cs, Cs3, Rq, Else, firstOf, heardOf}
 use Rattle.mode_a.specs.Over.{listenedAll}
-use Rattle.mode_a.specs.Answerback.{owedThen}
+use Rattle.mode_a.specs.Answerback.{blockOwed, owedThen}
 use Rattle.mode_a.specs.Rows.{rowOf, sending, opening}
 use Rattle.mode_a.specs.Step.{isAsked, done}
 use Rattle.runs.specs.Places.{isSending, isOpening, isReceiving}
@@ -31,7 +32,7 @@ use Rattle.runs.proofs.CodeLaws.{isOwed}
 use Rattle.runs.proofs.OwedLaws.{owingAt}
 use Rattle.runs.proofs.RowLaws.{by-asking}
 use Rattle.runs.proofs.StepLaws.{answers, by-repeat, by-owed}
-use Rattle.who_are_you.specs.Answers.{asks, isCs3, cuts}
+use Rattle.who_are_you.specs.Answers.{asks, heldAt, isCs3, cuts}
 
 pub is-receiving : (p : Place) → isReceiving p ≡ true → (n : Number) × (p ≡ Receiving n)
 is-receiving (Sending h) e = absurd (true≢false (sym e))
@@ -61,7 +62,7 @@ asked-turns s e r a t =
 -- t: the row takes; c: CS3 is heard where it cuts
 pub data Moves (s : Station) (t c : Bool) (r : Reply) : Type 0 where
   owes-on : r .station .owed ≡ s .owed → owingAt (r .station .place) ≡ true → t ≡ false → r .taken ≡ false → Moves s t c r
-  takes-one : r .station .owed ≡ owedThen (s .own .code) (s .owed) → isSending (r .station .place) ≡ true → owingAt (r .station .place) ≡ true → t ≡ true → r .taken ≡ false → Moves s t c r
+  takes-one : r .station .owed ≡ owedThen (s .own .code) (s .owed) → heldAt (r .station .place) ≡ blockOwed (s .own .code) (s .owed) ∷ [] → owingAt (r .station .place) ≡ true → t ≡ true → r .taken ≡ false → Moves s t c r
   is-cut : c ≡ true → r .station .owed ≡ Owed.Nothing → r .taken ≡ false → Moves s t c r
 
 abbrev cutting : Place → First → Bool

@@ -13,8 +13,13 @@
 --     no-end-before-the-answer               end taken while an answer is owed
 --     no-owed-after-cs3                      the rest of an answer owed after CS3 at Sending
 --     no-owed-past-the-last                  an index that the answer does not have, not refused
---     no-code-of-21, no-code-with-d-first, no-code-ending-in-over
+--     no-keep-past-the-last                  the same where the direction is kept: the index of the over that the other answer has
+--     no-code-of-21, no-code-with-beta, no-code-with-d-first, no-code-ending-in-over
 --                                            such a code given to a station
+--     no-old-answer-still-owed               what was owed of the answer of the old code owed behind a code that is given
+--     no-code-that-restarts                  the count at 0 behind a code that is given
+--     no-code-unjudged-at-standby, no-code-unjudged-when-lost
+--                                            a step with a bad code there
 --     no-order-9-4, no-order-9-8, no-order-3-9
 --                                            a bad code told before a bad station, or a bad call; a bad offer told before a bad code
 --     no-whole-answer-though-cut             an answer that CS3 cuts is under way, or whole
@@ -38,14 +43,15 @@ use Rattle.mode_a.specs.declared.Words.{Words}
 use Rattle.mode_a.specs.declared.Code.{Code}
 use Rattle.mode_a.specs.declared.Owed.{Owed}
 use Rattle.mode_a.specs.declared.Peer.the-variants.{Nobody}
-use Rattle.mode_a.specs.declared.Place.the-variants.{Opening, Asking}
+use Rattle.mode_a.specs.declared.Place.{Place}
+use Rattle.mode_a.specs.declared.Place.the-variants.{Opening, Asking, Lost}
 use Rattle.mode_a.specs.declared.Offer.{Offer}
 use Rattle.mode_a.specs.declared.Station.{Station}
 use Rattle.mode_a.specs.declared.Reply.{Reply}
 use Rattle.mode_a.specs.declared.Stepped.{Stepped}
 use Rattle.mode_a.specs.declared.Coded.{Coded}
 use Rattle.identity.specs.Table3.{isIdentity}
-use Rattle.mode_a.specs.Station.{words, single, silence, noCode, freshSlave}
+use Rattle.mode_a.specs.Station.{words, single, silence, noCode, freshSlave, resting}
 use Rattle.mode_a.specs.Heard.{firstOf, mayHold, isBlock, isWords, heardOf}
 use Rattle.mode_a.specs.Over.{query, who, listened, listenedAll}
 use Rattle.mode_a.specs.Answerback.{codeSignals, holdsNeither, passes, βββ, figures+?, answerKeeping, answerOf, blockOwed, owedThen, owedExists}
@@ -55,7 +61,7 @@ use Rattle.runs.specs.Runs.{Event, Run, start, _▷_, said, next, after, isTake
 use Rattle.runs.proofs.CodeLaws.{isOwed}
 use Rattle.who_are_you.specs.Answers.{asks, takenIn, Progress, under-way, whole}
 use Rattle.who_are_you.specs.Quiet.{Quiet}
-use Rattle.who_are_you.proofs.Examples.{tea, hears, sentOf, codeOf, at, holding, code, set, question, turned, askedTwice, askedFive, question-asked, five-blocks, answer-is-cut}
+use Rattle.who_are_you.proofs.Examples.{tea, hears, sentOf, codeOf, at, holding, code, codePlus, set, codeA, busy, code-given-in-traffic, question, turned, askedTwice, askedFive, question-asked, five-blocks, answer-is-cut}
 
 -- the burst begins with this word
 abbrev begins : ℕ → Words → Bool
@@ -144,20 +150,23 @@ pub no-owed-past-the-last : (r : Reply) → Steps (at noCode Opening (Owed.Back 
 unfolding stepping sound owedExists passes codeSignals holdsNeither firstNot mayHold trafficOf meaningOf listened answerOf answerKeeping
 no-owed-past-the-last r p = let z : _≡_ {A = ℕ} 0 4 = ap numberIn (p .0) in omega arith
 
--- 21 times A; D; figures + ?
-abbrev aaa : Words
-aaa = words (wordNo 1) (wordNo 1) (wordNo 1)
+-- the answer of the code of five signals has four blocks where the direction is kept, and five where it is turned back
+pub no-keep-past-the-last : (r : Reply) → Steps (at code Opening (Owed.Keep 4)) (single cs1) Offer.Nothing (Stepped.Done r) → ⊥
+unfolding stepping sound owedExists passes codeSignals holdsNeither firstNot mayHold trafficOf meaningOf listened answerOf answerKeeping
+no-keep-past-the-last r p = let z : _≡_ {A = ℕ} 0 4 = ap numberIn (p .0) in omega arith
 
-abbrev code21 : Code
-code21 = record { length = 21; first = aaa; second = aaa; third = aaa; fourth = aaa; fifth = aaa; sixth = aaa; seventh = aaa }
-
+-- 21 times A; A β A; D; figures + ?
 abbrev givenIn : Answer Station → ℕ
 givenIn (answered s) = 0
 givenIn (refused n v) = n
 
-pub no-code-of-21 : (s : Station) → Codes freshSlave code21 (Coded.With s) → ⊥
+pub no-code-of-21 : (s : Station) → Codes freshSlave (codeA 21) (Coded.With s) → ⊥
 unfolding coding passes codeSignals holdsNeither firstNot trafficOf meaningOf listened
 no-code-of-21 s p = let z : _≡_ {A = ℕ} 0 9 = ap givenIn (p .0) in omega arith
+
+pub no-code-with-beta : (s : Station) → Codes freshSlave (codeOf 3 (words (wordNo 1) beta (wordNo 1)) silence) (Coded.With s) → ⊥
+unfolding coding passes codeSignals holdsNeither firstNot trafficOf meaningOf listened
+no-code-with-beta s p = let z : _≡_ {A = ℕ} 0 9 = ap givenIn (p .0) in omega arith
 
 pub no-code-with-d-first : (s : Station) → Codes freshSlave (codeOf 1 (words who 0 0) silence) (Coded.With s) → ⊥
 unfolding coding passes codeSignals holdsNeither firstNot trafficOf meaningOf listened
@@ -167,10 +176,29 @@ pub no-code-ending-in-over : (s : Station) → Codes freshSlave (codeOf 3 figure
 unfolding coding passes codeSignals holdsNeither firstNot trafficOf meaningOf listened
 no-code-ending-in-over s p = let z : _≡_ {A = ℕ} 0 9 = ap givenIn (p .0) in omega arith
 
--- a station with the code of 21 signals, and this count
+-- a code given to a station that owes, and has a count
+pub no-old-answer-still-owed : (s : Station) → isOwed (s .owed) ≡ true → Codes (busy codePlus (Owed.Back 1)) code (Coded.With s) → ⊥
+no-old-answer-still-owed s e p = true≢false (sym e ∙ ap (λ (t : Station). isOwed (t .owed)) (p .1 ∙ sym (code-given-in-traffic .1)))
+
+pub no-code-that-restarts : (s : Station) → s .count ≡ 0 → Codes (busy codePlus (Owed.Back 1)) code (Coded.With s) → ⊥
+no-code-that-restarts s e p =
+    let z : _≡_ {A = ℕ} 0 5 = sym e ∙ ap (λ (t : Station). t .count) (p .1 ∙ sym (code-given-in-traffic .1)) in omega arith
+
+-- a station with the code of 21 signals, at this place and with this count
+abbrev badAt : Place → ℕ → Station
+badAt p n =
+    record { role = Slave; place = p; count = n; case = Letters; plus = false; own = coded freshSlave (codeA 21) .own; other = Nobody; owed = Owed.Nothing }
+
 abbrev bad : ℕ → Station
-bad n =
-    record { role = Slave; place = Asking; count = n; case = Letters; plus = false; own = coded freshSlave code21 .own; other = Nobody; owed = Owed.Nothing }
+bad n = badAt Asking n
+
+pub no-code-unjudged-at-standby : (r : Reply) → Steps (badAt (resting 0) 0) silence Offer.Nothing (Stepped.Done r) → ⊥
+unfolding stepping sound owedExists passes codeSignals holdsNeither firstNot mayHold trafficOf meaningOf listened answerOf answerKeeping
+no-code-unjudged-at-standby r p = let z : _≡_ {A = ℕ} 0 9 = ap numberIn (p .0) in omega arith
+
+pub no-code-unjudged-when-lost : (r : Reply) → Steps (badAt Lost 0) silence Offer.Nothing (Stepped.Done r) → ⊥
+unfolding stepping sound owedExists passes codeSignals holdsNeither firstNot mayHold trafficOf meaningOf listened answerOf answerKeeping
+no-code-unjudged-when-lost r p = let z : _≡_ {A = ℕ} 0 9 = ap numberIn (p .0) in omega arith
 
 pub no-order-9-4 : (s : Station) → Steps (bad 32) silence Offer.Nothing (Stepped.BadCode s) → ⊥
 unfolding stepping sound owedExists passes codeSignals holdsNeither firstNot mayHold trafficOf meaningOf listened answerOf answerKeeping

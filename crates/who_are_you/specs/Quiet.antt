@@ -17,7 +17,7 @@ use Rattle.mode_a.specs.declared.Station.{Station}
 use Rattle.mode_a.specs.declared.Reply.{Reply}
 use Rattle.mode_a.specs.Heard.{heardOf}
 use Rattle.mode_a.specs.Over.{listenedAll}
-use Rattle.mode_a.specs.Answerback.{passes, answerKeeping}
+use Rattle.mode_a.specs.Answerback.{passes, answerKeeping, answerOf}
 use Rattle.laws.specs.Choice.{if_then_else_}
 use Rattle.runs.specs.Places.{isReceiving}
 use Rattle.runs.specs.Runs.{Event, Run, start, _▷_, said, after, accepting}
@@ -32,22 +32,23 @@ abbrev pub AsksNothing : Type 0
 AsksNothing = (k : Code) → passes k ≡ true → (c : Case) → Quiet c false (answerKeeping k)
 
 -- the blocks that a run accepts, in order
-abbrev pub acceptedAt : Station → Event → Answer Reply → List Words
-acceptedAt s e (answered r) = if accepting (s .place) (heardOf (s .own) (e .burst)) then e .burst ∷ [] else []
-acceptedAt s e (refused n v) = []
+abbrev pub acceptedOf : Station → Event → Answer Reply → List Words
+acceptedOf s e (answered r) = if accepting (s .place) (heardOf (s .own) (e .burst)) then e .burst ∷ [] else []
+acceptedOf s e (refused n v) = []
 
-unfoldable pub acceptedIn : Station → Run → List Words
-acceptedIn s start = []
-acceptedIn s (run ▷ e) = acceptedIn s run ++ acceptedAt (after s run) e (said (after s run) e)
+unfoldable pub acceptedBlocks : Station → Run → List Words
+acceptedBlocks s start = []
+acceptedBlocks s (run ▷ e) = acceptedBlocks s run ++ acceptedOf (after s run) e (said (after s run) e)
 
 -- the station is at Receiving before each event of the run
 unfoldable pub StaysReceiving : Station → Run → Type 0
 StaysReceiving s start = Unit {0}
 StaysReceiving s (run ▷ e) = StaysReceiving s run × (isReceiving (after s run .place) ≡ true)
 
--- So a station that has no + kept and owes nothing, is at Receiving before each event of a run, and accepts a beginning of such an answer
--- in it, owes nothing at its end, whatever is offered to it: no answer is answered.
+-- So a station that owes nothing, is at Receiving before each event of a run, and accepts a beginning of an answer of such a code in it, owes
+-- nothing at its end, whatever is offered to it: no answer is answered. The answer may be either, with the over behind it or without; and a +
+-- may be kept, for then an over may be heard in the answer, but nothing is asked.
 abbrev pub NoAnswerToAnswers : Type 0
 NoAnswerToAnswers =
-    (k : Code) → passes k ≡ true → (s : Station) → s .plus ≡ false → s .owed ≡ Owed.Nothing → (run : Run) → StaysReceiving s run →
-    (left : List Words) → answerKeeping k ≡ acceptedIn s run ++ left → after s run .owed ≡ Owed.Nothing
+    (k : Code) → passes k ≡ true → (o : Owed) → (s : Station) → s .owed ≡ Owed.Nothing → (run : Run) → StaysReceiving s run →
+    (left : List Words) → answerOf k o ≡ acceptedBlocks s run ++ left → after s run .owed ≡ Owed.Nothing
