@@ -98,5 +98,4 @@ pub record Demand3 (c : Circuit) : Type 0 where
 
 -- of every run, of two stations whose codes pass (02, T-06)  R-245
 abbrev pub OfEveryRun : Type 0
-OfEveryRun =
-    (c : Circuit) → Starts c → CodesPass c → (run : Run) → AllHarmless run → NoCallPlaced c run → Demand3 (after c run)
+OfEveryRun = (c : Circuit) → Starts c → CodesPass c → (run : Run) → AllHarmless run → NoCallPlaced c run → Demand3 (after c run)
