@@ -977,6 +977,142 @@ step_answer plain_step(struct station *station, uint32_t burst, uint64_t offer)
     }
 }
 
+/* --- A passage --- */
+
+enum { MASTERS_BURST = 1, SLAVES_BURST, MASTERS_TEXT, SLAVES_TEXT, SLAVES_END = 8 };
+
+/* By the kind of an entry: how long it is, and what it offers. */
+static const uint8_t ENTRY_LENGTH[SLAVES_END + 1] = { 0, 2, 2, 4, 4, 1, 1, 1, 1 };
+static const uint8_t ENTRY_OFFERS[SLAVES_END + 1] = {
+    0, 0, 0, OFFER_TEXT, OFFER_TEXT, OFFER_OVER, OFFER_OVER, OFFER_END, OFFER_END
+};
+
+/* By the damage byte: what is heard of a burst.  Bit 0 is the first word. */
+static const uint32_t IS_HEARD[8] = {
+    0xFFFFFF, 0xFFFF00, 0xFF00FF, 0xFF0000, 0x00FFFF, 0x00FF00, 0x0000FF, 0
+};
+
+/* Kinds 3, 5 and 7 are the master's, station 0; kinds 4, 6 and 8 the slave's. */
+static inline unsigned offered_to(unsigned kind)
+{
+    return (kind + 1) & 1;
+}
+
+/* A burst is heard by the other station. */
+static inline unsigned hearer_of(unsigned kind)
+{
+    return SLAVES_BURST - kind;
+}
+
+/* What is wrong with an entry that is whole, by whose burst is next and by what stands
+ * offered: its refusal, 0 for none. */
+static inline unsigned fault_of(const uint8_t *entry, unsigned next, const uint64_t *offers)
+{
+    unsigned kind = entry[0];
+
+    if (kind <= SLAVES_BURST)
+        return kind != next || entry[1] > 7 ? 12 : 0;
+    if (offers[offered_to(kind)] != 0)
+        return 13;
+    if (kind <= SLAVES_TEXT && !is_block(burst_of(entry[1], entry[2], entry[3])))
+        return 3;
+    return 0;
+}
+
+/* How many bytes the words print, the same in either case. */
+static inline uint32_t printed_by(uint32_t words)
+{
+    uint32_t count = 0;
+
+    for (; words != 0; words >>= 8)
+        count += IN_LETTERS[words & 0xFF] >> 8 & 1;
+    return count;
+}
+
+/* Prints the words, and answers the case that they end in.  No byte behind the last is
+ * touched. */
+static inline unsigned print_words(uint32_t words, unsigned in_case, uint8_t *room,
+                                   uint32_t *count)
+{
+    for (; words != 0; words >>= 8) {
+        uint32_t entry = (in_case ? IN_FIGURES : IN_LETTERS)[words & 0xFF];
+
+        if (!all_ordinary(entry))
+            in_case ^= 1;
+        else if (entry >> 8 & 1)
+            room[(*count)++] = (uint8_t)entry;
+    }
+    return in_case;
+}
+
+/* The run of two fresh stations.  Without rooms it judges each entry and counts what is
+ * printed; with rooms it prints, over a record that was judged. */
+static inline struct passed walk(const uint8_t *record, size_t length,
+                                 uint8_t *const *rooms)
+{
+    struct station stations[2] = { plain_fresh_master(), plain_fresh_slave() };
+    uint64_t offers[2] = { 0, 0 };
+    unsigned cases[2] = { LETTERS_CASE, LETTERS_CASE };
+    uint32_t on_the_way = control(0);
+    unsigned next = SLAVES_BURST;
+    struct passed passed = { 0 };
+    size_t at = 0;
+
+    while (at < length) {
+        const uint8_t *entry = record + at;
+        unsigned kind = entry[0];
+        size_t left = length - at;
+
+        if (rooms == NULL) {
+            unsigned fault = kind - 1u >= SLAVES_END ? 10
+                             : left < ENTRY_LENGTH[kind] ? 11
+                             : fault_of(entry, next, offers);
+
+            if (UNLIKELY(fault))
+                return (struct passed){ .refusal = fault, .value = (uint32_t)at };
+        }
+        at += ENTRY_LENGTH[kind];
+        if (kind <= SLAVES_BURST) {
+            unsigned hearer = hearer_of(kind);
+            step_answer given = plain_step(&stations[hearer],
+                                           on_the_way & IS_HEARD[entry[1]], offers[hearer]);
+            uint32_t words = step_printed(given);
+
+            on_the_way = step_sent(given);
+            next = MASTERS_BURST + hearer;
+            if (step_taken(given))
+                offers[hearer] = 0;
+            if (rooms == NULL)
+                passed.printed[hearer] += printed_by(words);
+            else
+                cases[hearer] = print_words(words, cases[hearer], rooms[hearer],
+                                            &passed.printed[hearer]);
+        } else {
+            offers[offered_to(kind)] = offer_of(ENTRY_OFFERS[kind],
+                kind <= SLAVES_TEXT ? burst_of(entry[1], entry[2], entry[3]) : 0);
+        }
+    }
+    return passed;
+}
+
+/* The record is walked twice: refusal 13 depends on the run, and nothing may be printed
+ * before the last entry is judged. */
+struct passed plain_passage(const uint8_t *record, size_t length,
+                            uint8_t *master, size_t master_length,
+                            uint8_t *slave, size_t slave_length)
+{
+    uint8_t *const rooms[2] = { master, slave };
+    struct passed judged = walk(record, length, NULL);
+
+    if (judged.refusal != 0)
+        return judged;
+    if (UNLIKELY(judged.printed[0] > master_length))
+        return (struct passed){ .refusal = 2, .value = judged.printed[0] };
+    if (UNLIKELY(judged.printed[1] > slave_length))
+        return (struct passed){ .refusal = 2, .value = judged.printed[1] };
+    return walk(record, length, rooms);
+}
+
 /* --- Mode B, the sender --- */
 
 /* 16 phasing positions; stretches of 96 traffic and 4 phasing positions, the last

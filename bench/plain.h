@@ -1,8 +1,8 @@
 /* not proved: for comparison only */
 
 /* Radio-telex logic after ITU-R M.625 (SITOR), as narrowed by paper 01 and changed
- * by 02 (T-01, T-02, T-05, T-06).  The proved calls are in crates/; docs/COST.md says what
- * this C is compared for.
+ * by 02 (T-01, T-02, T-05, T-06, T-07).  The proved calls are in crates/; docs/COST.md says
+ * what this C is compared for.
  *
  * A word is a byte, the unit sent first in bit 0.  A burst is three words in a
  * uint32_t, the first word in the low byte, the top byte zero.
@@ -167,6 +167,22 @@ answer plain_with_code(struct station *station, const struct code *code);
 
 /* Refusals 8, 4, 9, 3. */
 step_answer plain_step(struct station *station, uint32_t burst, uint64_t offer);
+
+/* --- A passage --- */
+
+/* The refusal, 0 for none, and the value beside it; where none, how many bytes each
+ * station printed. */
+struct passed {
+    uint32_t refusal;
+    uint32_t value;
+    uint32_t printed[2];    /* by the master, by the slave */
+};
+
+/* A fresh master and a fresh slave run over a record.  Refusals 10, 11, 12, 13 and 3
+ * of the first entry that has a fault, with its place; then 2, the master's room first. */
+struct passed plain_passage(const uint8_t *record, size_t length,
+                            uint8_t *master, size_t master_length,
+                            uint8_t *slave, size_t slave_length);
 
 /* --- The receiver of mode B --- */
 

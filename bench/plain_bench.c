@@ -20,7 +20,7 @@
 #define INLINE static inline
 #endif
 
-enum { SIZE = 8192, SCHEDULE = 4096 };
+enum { SIZE = 8192, SCHEDULE = 4096, LETTERS = 90 };
 
 /* --- The generator and the check-sum --- */
 
@@ -68,7 +68,7 @@ static void draw_traffic(size_t length)
         text[j] = TRAFFIC[below(32)];
 }
 
-/* --- The seven runs --- */
+/* --- The eight runs --- */
 
 static uint32_t run_meaning(uint64_t times)
 {
@@ -276,10 +276,73 @@ static uint32_t run_receive(uint64_t times)
     return sum;
 }
 
+/* Byte j of a record that has no fault: halves of 61 bytes, the master's and the slave's
+ * in turn.  A half has fifteen groups of four bytes, and then the station that has the
+ * turn offers over.  Every fifth group is a text of that station, and the others are a
+ * burst of the slave and one of the master.  Damaged are some of those behind the second
+ * and the third text: of four exchanges the three that are left see to it that the text
+ * is taken.  Behind the first text none is, since the turn takes all four.  No text has D
+ * or + in it. */
+static uint8_t entry_byte(size_t j)
+{
+    unsigned slave = j / 61 % 2;
+    unsigned place = j % 61;
+    unsigned group = place / 4;
+    uint32_t drawn = below(16);
+
+    if (place == 60)
+        return (uint8_t)(5 + slave);
+    if (group % 5 == 0) {
+        if (place % 4 == 0)
+            return (uint8_t)(3 + slave);
+        return place % 4 == 1 ? LETTERS : TRAFFIC[drawn];
+    }
+    if (place % 4 == 0)
+        return 2;
+    if (place % 4 == 2)
+        return 1;
+    return group % 5 == 1 && group != 1 && drawn < 8 ? (uint8_t)drawn : 0;
+}
+
+static uint8_t slaves_room[SIZE];
+
+static inline uint32_t mix_passed(uint32_t sum, struct passed given)
+{
+    uint32_t by_master = given.printed[0];
+    uint32_t by_slave = given.printed[1];
+
+    if (given.refusal != 0)
+        return mix(mix(sum, given.refusal), given.value);
+    sum = mix(sum, by_master);
+    if (by_master > 0)
+        sum = mix(sum, room[by_master - 1]);
+    sum = mix(sum, by_slave);
+    return by_slave > 0 ? mix(sum, slaves_room[by_slave - 1]) : sum;
+}
+
+static uint32_t run_passage(uint64_t times, size_t length)
+{
+    static const uint8_t one_block[8] = { 3, 71, 71, 71, 2, 0, 1, 0 };
+    static const uint8_t faulty[5][4] = { { 0 }, { 2 }, { 1, 0 }, { 5, 5 }, { 3 } };
+    static const size_t lengths[5] = { 1, 1, 2, 2, 4 };
+    uint32_t sum = 0;
+
+    for (size_t j = 0; j < 5; j++)
+        sum = mix_passed(sum, plain_passage(faulty[j], lengths[j], room, SIZE,
+                                            slaves_room, SIZE));
+    sum = mix_passed(sum, plain_passage(one_block, 8, room, SIZE, slaves_room, 2));
+
+    for (size_t j = 0; j < length; j++)
+        text[j] = entry_byte(j);
+    for (uint64_t i = 0; i < times; i++)
+        sum = mix_passed(sum, plain_passage(text, length, room, SIZE, slaves_room, SIZE));
+    return sum;
+}
+
 int main(void)
 {
-    static const char *const NAMES[8] = {
-        "", "meaning", "encode", "print", "step", "slot", "receive", "call"
+    static const char *const NAMES[9] = {
+        "", "meaning", "encode", "print", "step", "slot", "receive", "call", "passage"
     };
     unsigned call;
     uint64_t times;
@@ -287,8 +350,8 @@ int main(void)
     uint32_t sum;
 
     if (scanf("%u %" SCNu64 " %" SCNu64, &call, &times, &length) != 3
-        || call < 1 || call > 7) {
-        fputs("usage: CALL N L on standard input, CALL 1 to 7\n", stderr);
+        || call < 1 || call > 8) {
+        fputs("usage: CALL N L on standard input, CALL 1 to 8\n", stderr);
         return 2;
     }
     if (length > SIZE)
@@ -300,7 +363,8 @@ int main(void)
     case 4: sum = run_step(times); break;
     case 5: sum = run_slot(times, (size_t)length); break;
     case 6: sum = run_receive(times); break;
-    default: sum = run_call(times); break;
+    case 7: sum = run_call(times); break;
+    default: sum = run_passage(times, (size_t)length); break;
     }
     printf("%s %" PRIu32 "\n", NAMES[call], sum);
     return 0;

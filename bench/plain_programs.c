@@ -1,6 +1,6 @@
 /* not proved: for comparison only */
 
-/* The programs hear, receive, steps and calls over the calls of plain.h: NAME as
+/* The programs hear, receive, passage, steps and calls over the calls of plain.h: NAME as
  * the argument, standard input, output and error and the status as
  * docs/FORMATS.md gives them.  bench/run --check compares them with the proved
  * programs.
@@ -9,7 +9,7 @@
  *     ./programs steps < input
  *
  * hear and receive are filters written to be quick, by the block as the proved
- * ones are, and bench/run --filters measures them.  steps and calls read all of
+ * ones are, and bench/run --filters measures them.  passage, steps and calls read all of
  * their input first.
  *
  * Where a refused call changed a station or a receiver, or a call wrote beyond its
@@ -478,6 +478,58 @@ static void hear(void)
         hear_burst(&slave, &in_case, burst_of(block[0], begun > 1 ? block[1] : 0, 0));
 }
 
+/* --- passage --- */
+
+enum { MOST_RECORD = 262144 };
+
+/* However many bytes, as they are. */
+static void put_bytes(const uint8_t *bytes, size_t length)
+{
+    while (length != 0) {
+        size_t part = length < BLOCK ? length : BLOCK;
+
+        memcpy(out, bytes, part);
+        out += part;
+        bytes += part;
+        length -= part;
+        end_of_line();
+    }
+}
+
+static void put_station(const char *station, const uint8_t *printed, uint32_t length)
+{
+    put("%s %u\n", station, length);
+    put_bytes(printed, length);
+    put("\n");
+}
+
+static const char *fault_told(uint32_t refusal)
+{
+    switch (refusal) {
+    case 10: return "no such kind";
+    case 11: return "the body is cut short";
+    case 12: return "a burst out of turn, or bits 3 to 7 set";
+    case 13: return "the last offer is not taken yet";
+    default: return "a word that is neither traffic nor beta";
+    }
+}
+
+static void passage(void)
+{
+    static uint8_t master[MOST_RECORD];
+    static uint8_t slave[MOST_RECORD];
+    struct passed given;
+
+    read_input();
+    if (size > MOST_RECORD)
+        tell("too long: over %d bytes", MOST_RECORD);
+    given = plain_passage(input, size, master, sizeof master, slave, sizeof slave);
+    if (given.refusal != 0)
+        tell("refused %u %u: %s", given.refusal, given.value, fault_told(given.refusal));
+    put_station("master", master, given.printed[0]);
+    put_station("slave", slave, given.printed[1]);
+}
+
 /* --- calls --- */
 
 /* The length of a record's head, its kind counted; 0 for no kind. */
@@ -486,7 +538,8 @@ static size_t head_of(uint8_t kind)
     switch (kind) {
     case 'E':
     case 'P': return 6;
-    case 'S': return 7;
+    case 'S':
+    case 'V': return 7;
     case 'M': return 2;
     case 'R': return 11;
     case 'I': return 5;
@@ -496,31 +549,57 @@ static size_t head_of(uint8_t kind)
     }
 }
 
-static void call_text(const uint8_t *r, size_t room_length, size_t length)
+/* The lent rooms: one, or the master's and the slave's. */
+static uint8_t lent[2][MOST_ROOM + BEHIND];
+
+/* The whole of a room. */
+static void put_room(const uint8_t *room, size_t length)
 {
     static const char DIGITS[] = "0123456789ABCDEF";
-    static uint8_t room[MOST_ROOM + BEHIND];
     static char shown[2 * MOST_ROOM + 2];
     int beyond = 0;
-    answer given;
 
-    memset(room, FILLED_WITH, sizeof room);
-    given = r[0] == 'E' ? plain_encode(r + 6, length, r[1] % 2, room, room_length)
-                        : plain_print(r + 6, length, r[1] % 2, room, room_length);
-    for (size_t i = 0; i < room_length; i++) {
+    for (size_t i = 0; i < length; i++) {
         shown[2 * i] = DIGITS[room[i] >> 4];
         shown[2 * i + 1] = DIGITS[room[i] & 15];
     }
-    shown[2 * room_length] = 0;
-    if (room_length == 0)
+    shown[2 * length] = 0;
+    if (length == 0)
         strcpy(shown, "-");
-    for (size_t i = room_length; i < sizeof room; i++)
+    for (size_t i = length; i < MOST_ROOM + BEHIND; i++)
         beyond |= room[i] != FILLED_WITH;
+    put(" %s%s", shown, beyond ? " and beyond" : "");
+}
+
+static void call_text(const uint8_t *r, size_t room_length, size_t length)
+{
+    uint8_t *room = lent[0];
+    answer given;
+
+    memset(lent, FILLED_WITH, sizeof lent);
+    given = r[0] == 'E' ? plain_encode(r + 6, length, r[1] % 2, room, room_length)
+                        : plain_print(r + 6, length, r[1] % 2, room, room_length);
     if (answer_refusal(given) != 0)
-        put("refused %u %u ", answer_refusal(given), answer_value(given));
+        put("refused %u %u", answer_refusal(given), answer_value(given));
     else
-        put("ok %u %s ", answer_value(given), CASES[answer_case(given) % 2]);
-    put("%s%s\n", shown, beyond ? " and beyond" : "");
+        put("ok %u %s", answer_value(given), CASES[answer_case(given) % 2]);
+    put_room(room, room_length);
+    put("\n");
+}
+
+static void call_passage(const uint8_t *r, const size_t *rooms, size_t length)
+{
+    struct passed given;
+
+    memset(lent, FILLED_WITH, sizeof lent);
+    given = plain_passage(r + 7, length, lent[0], rooms[0], lent[1], rooms[1]);
+    if (given.refusal != 0)
+        put("refused %u %u", given.refusal, given.value);
+    else
+        put("ok %u %u", given.printed[0], given.printed[1]);
+    put_room(lent[0], rooms[0]);
+    put_room(lent[1], rooms[1]);
+    put("\n");
 }
 
 static void call_slot(const uint8_t *r, size_t length)
@@ -624,31 +703,36 @@ static void calls(void)
     while (at < size) {
         const uint8_t *r = input + at;
         size_t head = head_of(r[0]);
-        size_t room_length = 0;
+        size_t rooms[2] = { 0, 0 };
         size_t length = 0;
         int is_text = r[0] == 'E' || r[0] == 'P';
         int good = head != 0 && size - at >= head;
         const char *bad;
 
         if (good && is_text)
-            room_length = low_first(r + 2, 2);
-        if (good && (is_text || r[0] == 'S'))
+            rooms[0] = low_first(r + 2, 2);
+        if (good && r[0] == 'V') {
+            rooms[0] = low_first(r + 1, 2);
+            rooms[1] = low_first(r + 3, 2);
+        }
+        if (good && (is_text || r[0] == 'S' || r[0] == 'V'))
             length = low_first(r + head - 2, 2);
         bad = head == 0 ? "no such kind"
               : !good ? "cut short"
-              : room_length > MOST_ROOM ? "a room over 8192"
+              : rooms[0] > MOST_ROOM || rooms[1] > MOST_ROOM ? "a room over 8192"
               : length > MOST_LENGTH ? "a length over 8193"
               : size - at - head < length ? "cut short" : NULL;
         if (bad != NULL)
             tell("bad record at %zu: %s", at, bad);
         switch (r[0]) {
         case 'S': call_slot(r, length); break;
+        case 'V': call_passage(r, rooms, length); break;
         case 'M': put("%u %u\n", plain_meaning(r[1]), plain_intact(r[1])); break;
         case 'R': call_receive(r); break;
         case 'I':
         case 'J': call_standing_by(r); break;
         case 'C': call_with_code(r); break;
-        default: call_text(r, room_length, length); break;
+        default: call_text(r, rooms[0], length); break;
         }
         at += head + length;
     }
@@ -660,7 +744,8 @@ int main(int count, char **words)
         const char *name;
         void (*run)(void);
     } PROGRAMS[] = {
-        { "hear", hear }, { "receive", receive }, { "steps", steps }, { "calls", calls }
+        { "hear", hear }, { "receive", receive }, { "passage", passage },
+        { "steps", steps }, { "calls", calls }
     };
 
     signal(SIGPIPE, SIG_IGN);
@@ -676,6 +761,6 @@ int main(int count, char **words)
         flush();
         return 0;
     }
-    fputs("usage: hear, receive, steps or calls as the argument\n", stderr);
+    fputs("usage: hear, receive, passage, steps or calls as the argument\n", stderr);
     return 2;
 }

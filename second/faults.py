@@ -27,7 +27,7 @@ import programs  # noqa: E402
 HERE = os.path.dirname(os.path.abspath(__file__))
 
 # In the order in which they can be loaded: each imports only those before it.
-MODULES = ("refusal", "signals", "text", "station", "broadcast", "programs")
+MODULES = ("refusal", "signals", "text", "station", "passages", "broadcast", "programs")
 
 # about: what is wrong.  tellers: the programs whose inputs have to tell it, and
 # of `calls` the kind of record, as in "calls R".  Then the module, a piece of
@@ -2386,17 +2386,17 @@ fault("calls: a bad record is told as cut short, whatever it is", "calls",
 fault("calls: no such kind is told as cut short", "calls", "programs",
       "raise BadRecord(\"no such kind\")", "raise BadRecord(\"cut short\")")
 fault("calls: a length over 8,193 is told before a room over 8,192", "calls",
-      "programs", "    if room_length > MOST_ROOM:\n",
-      "    judge_length(length)\n    if room_length > MOST_ROOM:\n")
+      "programs", "    judge_room(room_length)\n",
+      "    judge_length(length)\n    judge_room(room_length)\n")
 fault("calls: a length over 8,193 is told as cut short", "calls", "programs",
       "raise BadRecord(\"a length over 8193\")", "raise BadRecord(\"cut short\")")
 fault("calls: a room over 8,192 is told as a length", "calls", "programs",
       "raise BadRecord(\"a room over 8192\")",
       "raise BadRecord(\"a length over 8193\")")
 fault("calls: a list cut short is told before a room over 8,192", "calls",
-      "programs", "    if room_length > MOST_ROOM:\n",
+      "programs", "    judge_room(room_length)\n",
       "    cut(data, place + 5, min(length, MOST_LENGTH))\n"
-      "    if room_length > MOST_ROOM:\n")
+      "    judge_room(room_length)\n")
 fault("calls: a room over 8,192 is told before the head is whole", "calls",
       "programs", "    head = cut(data, place, 5)\n    case",
       "    if low_first(data[place + 1:place + 3]) > MOST_ROOM:\n"
@@ -2495,10 +2495,604 @@ fault("calls R: the words in the other order", "calls R", "programs",
       "oldest, middle, newest = fields[4], fields[5], fields[6]",
       "oldest, middle, newest = fields[6], fields[5], fields[4]")
 
+# --- A passage (02, T-07) ---
+
+PASSED = "passage, calls V"
+
+# Of `damaged`: which words are heard as what.
+IS_DAMAGED = "    return tuple(0 if damage >> index & 1 else word\n"
+# Of `Run`, how it starts.
+SENDS_FIRST = "        self.sender = SLAVE\n"
+FIRST_BURST = "        self.burst = mode_a.single(CS1)\n"
+# Of `hear`: who hears, what is offered and taken, and what is printed.
+HEARS_IT = "    hearer = OTHER[run.sender]\n"
+OFFERED = "    offer = mode_a.NOTHING if side.offer is None else side.offer\n"
+TAKEN = "    if answer.taken:\n        side.offer = None\n"
+PRINTED = "    side.printed += room[:written.length]\n"
+CASE_KEPT = "    side.case = written.case\n"
+PRINTS = "    written = text.print_signals(side.case, answer.printed, room)\n"
+ON_THE_WAY = "    run.burst = answer.burst\n"
+NEXT_SENDER = "    run.sender = hearer\n"
+# Of `refusal_of`, in its order.
+NO_KIND = "    if record[place] not in KINDS:\n        return 10\n"
+BODY_CUT = "    if len(body) < length:\n        return 11\n"
+KIND_READ = "    what, whose, length = KINDS[record[place]]\n    body = record[place + 1:"
+OF_A_BURST = "        if whose != run.sender or body[0] > MOST_DAMAGE:\n            return 12\n"
+STANDS_YET = "    if run.sides[whose].offer is not None:\n        return 13\n"
+WORDS_JUDGED = """    if what == "text":
+        for word in body:
+            if not mode_a.may_stand_in_block(word):
+                return 3
+"""
+MAY_STAND = "            if not mode_a.may_stand_in_block(word):\n                return 3\n"
+# Of `go`.
+GOES_ON_BEHIND = "    behind = place + 1 + length\n"
+MAKES_OFFER = ("        run.sides[whose].offer = mode_a.Offer(what, body or "
+               "(0, 0, 0))\n")
+# Of `passage`: what is refused, and the rooms.
+REFUSED_AT = "            return Refused(number, place)\n"
+NEXT_ENTRY = "        place = go(run, record, place)\n"
+WALKS = "    while place < len(record):\n"
+MASTER_NEEDS = """    if len(master) > len(master_room):
+        return Refused(2, len(master))
+"""
+SLAVE_NEEDS = """    if len(slave) > len(slave_room):
+        return Refused(2, len(slave))
+"""
+MASTER_WRITTEN = "    master_room[:len(master)] = master\n"
+SLAVE_WRITTEN = "    slave_room[:len(slave)] = slave\n"
+
+# The damage.
+fault("passage: bit 0 is that of the last word", PASSED, "passages",
+      IS_DAMAGED, IS_DAMAGED.replace("index &", "2 - index &"))
+fault("passage: the bits are those of the next words", PASSED, "passages",
+      IS_DAMAGED, IS_DAMAGED.replace("index &", "(index + 1) % 3 &"))
+for index in range(3):
+    fault("passage: bit %d is not looked at" % index, PASSED, "passages",
+          IS_DAMAGED, IS_DAMAGED.replace("& 1", "& 1 and index != %d" % index))
+fault("passage: any bit damages all three words", PASSED, "passages",
+      IS_DAMAGED, IS_DAMAGED.replace("damage >> index & 1", "damage"))
+fault("passage: any bit damages the first word", PASSED, "passages",
+      IS_DAMAGED, IS_DAMAGED.replace("index & 1", "index & 1 or damage and index == 0"))
+fault("passage: a set bit is that of a word that was heard", PASSED, "passages",
+      IS_DAMAGED, IS_DAMAGED.replace("damage >>", "~damage >>"))
+for name, word in (("RQ", 102), ("alpha", 15), ("beta", 51), ("CS1", 101), ("CS2", 106),
+                   ("CS3", 89)):
+    fault("passage: a damaged word is heard as %s" % name, PASSED, "passages",
+          IS_DAMAGED, IS_DAMAGED.replace("tuple(0 ", "tuple(%d " % word))
+fault("passage: a damaged word has one unit changed", PASSED, "passages",
+      IS_DAMAGED, IS_DAMAGED.replace("tuple(0 if", "tuple(word ^ 6 if"))
+fault("passage: damage stays on the burst when it is sent again", PASSED, "passages",
+      ON_THE_WAY, "    run.burst = damaged(answer.burst, damage)\n")
+fault("passage: the damage is that of the answer", PASSED, "passages",
+      "damaged(run.burst, damage), offer)", "run.burst, offer)",
+      (ON_THE_WAY, "    run.burst = damaged(answer.burst, damage)\n"))
+fault("passage: a burst whose first word is damaged is not heard", PASSED, "passages",
+      HEARS_IT, HEARS_IT + "    if damage & 1:\n        run.sender = hearer\n        return\n")
+fault("passage: a burst damaged throughout is no step", PASSED, "passages",
+      HEARS_IT, HEARS_IT + "    if damage == 7:\n        run.sender = hearer\n        return\n")
+
+# The run.
+fault("passage: the master's burst leads", PASSED, "passages",
+      SENDS_FIRST, "        self.sender = MASTER\n")
+fault("passage: whichever burst is first leads", PASSED, "passages",
+      SENDS_FIRST, "        self.sender = None\n",
+      ("        if whose != run.sender or",
+       "        if run.sender is None:\n            run.sender = whose\n"
+       "        if whose != run.sender or"))
+fault("passage: the first burst is silence", PASSED, "passages",
+      FIRST_BURST, "        self.burst = mode_a.SILENCE\n")
+fault("passage: the first burst is CS2", PASSED, "passages",
+      FIRST_BURST, "        self.burst = (106, 0, 0)\n")
+fault("passage: the first burst is heard twice", PASSED, "passages",
+      ON_THE_WAY,
+      "    run.burst = answer.burst\n    if not hasattr(run, \"begun\"):\n"
+      "        run.begun = True\n        run.burst = mode_a.single(CS1)\n")
+fault("passage: a station hears its own burst", PASSED, "passages",
+      HEARS_IT + "    side = run.sides[hearer]\n",
+      HEARS_IT + "    side = run.sides[run.sender]\n")
+fault("passage: the slave is fresh with the master's role", PASSED, "passages",
+      "SLAVE: Side(mode_a.fresh_slave())", "SLAVE: Side(mode_a.fresh_slave()._replace(master=True))")
+fault("passage: both have a code", PASSED, "passages",
+      "    run = Run()\n",
+      "    run = Run()\n    for side in run.sides.values():\n"
+      "        side.station = mode_a.with_code(\n"
+      "            side.station, mode_a.Code(1, (90,) + (71,) * 20))\n")
+fault("passage: the run ends where a station is Lost", PASSED, "passages",
+      WALKS, "    while place < len(record) and mode_a.LOST not in [\n"
+      "            side.station.place for side in run.sides.values()]:\n")
+fault("passage: the run ends where a station is at Stand-by", PASSED, "passages",
+      WALKS, "    while place < len(record) and mode_a.STANDBY not in [\n"
+      "            side.station.place for side in run.sides.values()]:\n")
+fault("passage: a station that is Lost begins anew", PASSED, "passages",
+      "    side.station = answer.station\n",
+      "    side.station = answer.station\n"
+      "    if side.station.place == mode_a.LOST:\n"
+      "        side.station = Run().sides[hearer].station\n")
+fault("passage: a station at Stand-by begins anew", PASSED, "passages",
+      "    side.station = answer.station\n",
+      "    side.station = answer.station\n"
+      "    if side.station.place == mode_a.STANDBY:\n"
+      "        side.station = Run().sides[hearer].station\n")
+fault("passage: the last burst of a record is not heard", PASSED, "passages",
+      WALKS, WALKS.replace("len(record):", "len(record) and not (\n"
+                           "            record[place] in (1, 2) and len(record) == place + 2\n"
+                           "            and record[place + 1] < 8):"))
+
+# Offers.
+fault("passage: an offer is pressed once only", PASSED, "passages",
+      TAKEN, "    side.offer = None\n")
+fault("passage: an offer is pressed three times at most", PASSED, "passages",
+      TAKEN,
+      "    side.pressed = getattr(side, \"pressed\", 0) + 1 if side.offer else 0\n"
+      "    if answer.taken or side.pressed == 3:\n"
+      "        side.offer = None\n        side.pressed = 0\n")
+fault("passage: an offer stands when it is taken", PASSED, "passages", TAKEN, "")
+for what in ("text", "over", "end"):
+    fault("passage: an offer of %s stands when it is taken" % what, PASSED, "passages",
+          TAKEN, TAKEN.replace("taken:", "taken and offer.kind != \"%s\":" % what))
+fault("passage: an over stands where Receiving takes it", PASSED, "passages",
+      TAKEN, TAKEN.replace("taken:", "taken and side.station.place != mode_a.ASKING:"))
+fault("passage: what is taken by one station is taken from the other", PASSED, "passages",
+      TAKEN, TAKEN.replace("side.offer", "run.sides[run.sender].offer"))
+fault("passage: an answer-back takes the offer", PASSED, "passages",
+      TAKEN, TAKEN.replace("taken:", "taken or answer.burst in (\n"
+                           "            mode_a.BETAS, mode_a.OVER):"))
+for place, name in (("LOST", "Lost"), ("STANDBY", "Stand-by")):
+    fault("passage: an offer is dropped at %s" % name, PASSED, "passages",
+          TAKEN, TAKEN.replace("taken:", "taken or side.station.place == mode_a.%s:" % place))
+fault("passage: an offer is dropped at Turning", PASSED, "passages",
+      TAKEN, TAKEN.replace("taken:", "taken or side.station.place == mode_a.TURNING:"))
+fault("passage: an offer is pressed at Sending and Opening alone", PASSED, "passages",
+      OFFERED, OFFERED.replace("is None else", "is None or side.station.place not in (\n"
+                               "        mode_a.SENDING, mode_a.OPENING) else"))
+fault("passage: an offer is pressed at Receiving alone", PASSED, "passages",
+      OFFERED, OFFERED.replace("is None else", "is None or side.station.place != (\n"
+                               "        mode_a.RECEIVING) else"))
+fault("passage: an offer is not pressed at the first burst behind it", PASSED, "passages",
+      OFFERED,
+      "    fresh = side.offer is not None and not getattr(side, \"seen\", False)\n"
+      "    side.seen = side.offer is not None\n"
+      + OFFERED.replace("is None else", "is None or fresh else"))
+fault("passage: an offer is not pressed where the burst is damaged", PASSED, "passages",
+      OFFERED, OFFERED.replace("is None else", "is None or damage != 0 else"))
+fault("passage: where none stands an over is offered", PASSED, "passages",
+      OFFERED, OFFERED.replace("mode_a.NOTHING", "mode_a.Offer(\"over\", (0, 0, 0))"))
+fault("passage: the last text is offered again where none stands", PASSED, "passages",
+      OFFERED, OFFERED.replace("mode_a.NOTHING", "getattr(side, \"old\", mode_a.NOTHING)")
+      + "    side.old = mode_a.NOTHING if offer.kind != \"text\" else offer\n")
+fault("passage: the offers of both stations are one", PASSED, "passages",
+      MAKES_OFFER, "        for one in OTHER:\n    " + MAKES_OFFER.replace("[whose]", "[one]"))
+fault("passage: a text offer has its words in the other order", PASSED, "passages",
+      MAKES_OFFER, MAKES_OFFER.replace("body or", "body[::-1] or"))
+fault("passage: offers may stand before the slave's burst alone", PASSED, "passages",
+      STANDS_YET, STANDS_YET + "    if run.sender != SLAVE:\n        return 12\n")
+fault("passage: an offer may not stand before the first burst", PASSED, "passages",
+      STANDS_YET, STANDS_YET + "    if not hasattr(run, \"begun\"):\n        return 12\n",
+      (ON_THE_WAY, ON_THE_WAY + "    run.begun = True\n"))
+fault("passage: an offer to the station that has just sent is refused", PASSED, "passages",
+      STANDS_YET, STANDS_YET + "    if run.sender == whose:\n        return 13\n")
+
+# The kinds.
+for one, other, name in ((1, 2, "bursts"), (3, 4, "texts"), (5, 6, "overs"), (7, 8, "ends")):
+    what = {1: "burst", 3: "text", 5: "over", 7: "end"}[one]
+    length = {1: 1, 3: 3, 5: 0, 7: 0}[one]
+    line = "    %d: (\"%s\", %s, %d),\n"
+    fault("passage: the two kinds of %s are exchanged" % name, PASSED, "passages",
+          line % (one, what, "MASTER", length), line % (one, what, "SLAVE", length),
+          (line % (other, what, "SLAVE", length), line % (other, what, "MASTER", length)))
+fault("passage: kinds 5 and 6 are end, 7 and 8 over", PASSED, "passages",
+      "    5: (\"over\", MASTER, 0),\n    6: (\"over\", SLAVE, 0),\n"
+      "    7: (\"end\", MASTER, 0),\n    8: (\"end\", SLAVE, 0),\n",
+      "    5: (\"end\", MASTER, 0),\n    6: (\"end\", SLAVE, 0),\n"
+      "    7: (\"over\", MASTER, 0),\n    8: (\"over\", SLAVE, 0),\n")
+fault("passage: kinds 6 and 7 are exchanged", PASSED, "passages",
+      "    6: (\"over\", SLAVE, 0),\n    7: (\"end\", MASTER, 0),\n",
+      "    6: (\"end\", MASTER, 0),\n    7: (\"over\", SLAVE, 0),\n")
+for kind in range(1, 9):
+    fault("passage: kind %d is unknown" % kind, PASSED, "passages",
+          "    if record[place] not in KINDS:\n",
+          "    if record[place] not in KINDS or record[place] == %d:\n" % kind)
+# Unknown kinds that are taken for something.
+for about, kinds in (("kind 0", "(0,)"), ("kind 9", "(9,)"), ("kind 255", "(255,)"),
+                     ("kinds from 128 on", "range(128, 256)"),
+                     ("kinds 9 to 15", "range(9, 16)")):
+    fault("passage: %s is passed over" % about, PASSED if kinds != "(255,)" else "calls V",
+          "passages", NO_KIND,
+          "    if record[place] in %s:\n        return None\n" % kinds + NO_KIND,
+          ("    what, whose, length = KINDS[record[place]]\n" + GOES_ON_BEHIND,
+           "    if record[place] in %s:\n        return place + 1\n" % kinds
+           + "    what, whose, length = KINDS[record[place]]\n" + GOES_ON_BEHIND))
+for about, cut, tellers in (("bit 7", "& 127", "calls V"), ("bits 4 to 7", "& 15", "calls V"),
+                            ("bits 5 to 7", "& 31", "calls V")):
+    fault("passage: %s of the kind are not looked at" % about, tellers, "passages",
+          "    if record[place] not in KINDS:\n",
+          "    if record[place] %s not in KINDS:\n" % cut,
+          (KIND_READ, KIND_READ.replace("record[place]]", "record[place] %s]" % cut)),
+          ("    what, whose, length = KINDS[record[place]]\n" + GOES_ON_BEHIND,
+           "    what, whose, length = KINDS[record[place] %s]\n" % cut + GOES_ON_BEHIND))
+
+# Refusals: what, and in which order.
+fault("passage: an unknown kind ends the record", PASSED, "passages",
+      NO_KIND, "    if record[place] not in KINDS:\n        return -1\n",
+      ("        if number is not None:\n",
+       "        if number == -1:\n            break\n        if number is not None:\n"))
+fault("passage: 11 before 10", PASSED, "passages",
+      NO_KIND, "    if record[place] not in KINDS:\n"
+      "        return 11 if place + 1 == len(record) else 10\n")
+fault("passage: 11 before 10, of a body of three", PASSED, "passages",
+      NO_KIND, "    if record[place] not in KINDS:\n"
+      "        return 11 if place + 3 >= len(record) else 10\n")
+fault("passage: a body that is cut short is filled", PASSED, "passages",
+      BODY_CUT, "    body = bytes(body) + bytes(length - len(body))\n",
+      ("    body = tuple(record[place + 1:behind])\n",
+       "    body = tuple(record[place + 1:behind]) + (0,) * (behind - len(record))\n"))
+fault("passage: a record that is cut short ends before it", PASSED, "passages",
+      BODY_CUT, "    if len(body) < length:\n        return -1\n",
+      ("        if number is not None:\n",
+       "        if number == -1:\n            break\n        if number is not None:\n"))
+fault("passage: 11 where the body just fits", PASSED, "passages",
+      BODY_CUT, "    if place + length + 1 >= len(record) and length:\n        return 11\n")
+fault("passage: a text may lack its last word", PASSED, "passages",
+      BODY_CUT, "    if len(body) < min(length, 2):\n        return 11\n")
+fault("passage: 12 before 11", PASSED, "passages",
+      BODY_CUT, "    if what == \"burst\" and whose != run.sender:\n        return 12\n"
+      + BODY_CUT)
+fault("passage: 13 before 11", PASSED, "passages",
+      BODY_CUT, "    if what != \"burst\" and run.sides[whose].offer is not None:\n"
+      "        return 13\n" + BODY_CUT)
+fault("passage: 3 before 11", "calls V", "passages",
+      BODY_CUT, "    if what == \"text\" and not all(map(mode_a.may_stand_in_block, body)):\n"
+      "        return 13 if run.sides[whose].offer else 3\n" + BODY_CUT)
+fault("passage: 3 before 13", PASSED, "passages",
+      STANDS_YET, "    if what == \"text\" and not all(\n"
+      "            map(mode_a.may_stand_in_block, body)):\n        return 3\n" + STANDS_YET)
+fault("passage: bursts need not alternate", PASSED, "passages",
+      OF_A_BURST, OF_A_BURST.replace("whose != run.sender or ", ""))
+fault("passage: a burst behind one of the same station is its repetition", PASSED,
+      "passages", OF_A_BURST, OF_A_BURST.replace("whose != run.sender or ", ""),
+      ("        hear(run, body[0])\n",
+       "        if whose == run.sender:\n            hear(run, body[0])\n"))
+fault("passage: the master's bursts need not be in turn", PASSED, "passages",
+      OF_A_BURST, OF_A_BURST.replace("whose != run.sender", "whose == SLAVE != run.sender"))
+fault("passage: the slave's bursts need not be in turn", PASSED, "passages",
+      OF_A_BURST, OF_A_BURST.replace("whose != run.sender", "whose == MASTER != run.sender"))
+fault("passage: bits 3 to 7 are not looked at", PASSED, "passages",
+      OF_A_BURST, OF_A_BURST.replace(" or body[0] > MOST_DAMAGE", ""))
+for bits, most in (("bit 3 is", 15), ("bits 3 and 4 are", 31), ("bits 3 to 6 are", 127)):
+    fault("passage: %s not looked at" % bits, PASSED if most > 15 else "calls V", "passages",
+          "MOST_DAMAGE = 7\n", "MOST_DAMAGE = %d\n" % most)
+fault("passage: bit 7 is not looked at", "calls V", "passages",
+      OF_A_BURST, OF_A_BURST.replace("body[0] >", "body[0] & 127 >"))
+fault("passage: a burst damaged throughout is refused", PASSED, "passages",
+      "MOST_DAMAGE = 7\n", "MOST_DAMAGE = 6\n")
+fault("passage: bits 3 to 7 of a burst in turn are 11", PASSED, "passages",
+      OF_A_BURST, "        if body[0] > MOST_DAMAGE and whose == run.sender:\n"
+      "            return 11\n" + OF_A_BURST)
+fault("passage: a burst out of turn is 13", PASSED, "passages",
+      OF_A_BURST, "        if whose != run.sender:\n            return 13\n" + OF_A_BURST)
+fault("passage: an offer takes the place of one that stands", PASSED, "passages",
+      STANDS_YET, "")
+fault("passage: an offer beside one that stands is not looked at", PASSED, "passages",
+      STANDS_YET, "",
+      ("    else:\n        # No words of over and end",
+       "    elif run.sides[whose].offer is None:\n        # No words of over and end"))
+for what in ("text", "over", "end"):
+    fault("passage: %s may be offered beside one that stands" % what, PASSED, "passages",
+          STANDS_YET, STANDS_YET.replace("is not None:", "is not None and what != \"%s\":"
+                                         % what))
+    fault("passage: beside %s that stands another may be offered" % what, PASSED, "passages",
+          STANDS_YET, STANDS_YET.replace(
+              "is not None:", "is not None and run.sides[whose].offer.kind != \"%s\":" % what))
+fault("passage: the same offer once more is not refused", PASSED, "passages",
+      STANDS_YET, STANDS_YET.replace(
+          "is not None:", "not in (None, mode_a.Offer(what, tuple(body) or (0, 0, 0))):"))
+fault("passage: 13 where the other station has an offer", PASSED, "passages",
+      STANDS_YET, STANDS_YET.replace("[whose]", "[OTHER[whose]]"))
+fault("passage: 13 where either station has an offer", PASSED, "passages",
+      STANDS_YET, "    if any(side.offer is not None for side in run.sides.values()):\n"
+      "        return 13\n")
+for place, name in (("LOST", "Lost"), ("STANDBY", "Stand-by")):
+    fault("passage: at %s an offer is never 13" % name, PASSED, "passages",
+          STANDS_YET, STANDS_YET.replace(
+              "is not None:", "is not None and run.sides[whose].station.place != mode_a.%s:"
+              % place))
+    fault("passage: at %s the first offer is 13" % name, PASSED, "passages",
+          STANDS_YET, STANDS_YET.replace(
+              "is not None:", "is not None or run.sides[whose].station.place == mode_a.%s:"
+              % place))
+fault("passage: text may be offered to who has the direction alone", PASSED, "passages",
+      STANDS_YET, STANDS_YET + "    if what == \"text\" and run.sides[whose].station.place in (\n"
+      "            mode_a.RECEIVING, mode_a.ASKING):\n        return 13\n")
+fault("passage: 3 is not refused", PASSED, "passages",
+      MAY_STAND, "            if False:\n                return 3\n",
+      ("    side.station = answer.station\n",
+       "    if not hasattr(answer, \"station\"):\n        side.offer = None\n        return\n"
+       "    side.station = answer.station\n"))
+for index in range(3):
+    fault("passage: word %d of a text offer is not judged" % index,
+          PASSED if index else "calls V", "passages", WORDS_JUDGED,
+          WORDS_JUDGED.replace("in body:", "in body[:%d] + body[%d:]:" % (index, index + 1)),
+          ("        run.sides[whose].offer = mode_a.Offer(what, body or (0, 0, 0))\n",
+           "        body = tuple(word if mode_a.may_stand_in_block(word) else 51\n"
+           "                     for word in body)\n" + MAKES_OFFER))
+fault("passage: beta may not be offered", PASSED, "passages",
+      MAY_STAND, MAY_STAND.replace("word):", "word) or word == 51:"))
+for name, word in (("alpha", 15), ("RQ", 102), ("255", 255), ("0", 0)):
+    fault("passage: %s may be offered" % name, "calls V", "passages",
+          MAY_STAND, MAY_STAND.replace("word):", "word) and word != %d:" % word),
+          ("        run.sides[whose].offer = mode_a.Offer(what, body or (0, 0, 0))\n",
+           "        body = tuple(word if mode_a.may_stand_in_block(word) else 51\n"
+           "                     for word in body)\n" + MAKES_OFFER))
+fault("passage: bit 7 of a word offered is not looked at", "calls V", "passages",
+      MAY_STAND, MAY_STAND.replace("(word)", "(word % 128)"),
+      ("mode_a.Offer(what, body or", "mode_a.Offer(what, tuple(\n"
+       "            word % 128 for word in body) or"))
+fault("passage: 3 is told where the offer is pressed", PASSED, "passages",
+      WORDS_JUDGED, "",
+      (OF_A_BURST, OF_A_BURST
+       + "        offer = run.sides[OTHER[whose]].offer\n"
+       "        if offer is not None and offer.kind == \"text\" and not all(\n"
+       "                map(mode_a.may_stand_in_block, offer.words)):\n"
+       "            return 3\n"))
+fault("passage: an offer that is not taken at the end is 13", PASSED, "passages",
+      "    master = run.sides[MASTER].printed\n",
+      "    if any(side.offer is not None for side in run.sides.values()):\n"
+      "        return Refused(13, place)\n    master = run.sides[MASTER].printed\n")
+fault("passage: a record that ends with the slave's burst is 12", PASSED, "passages",
+      "    master = run.sides[MASTER].printed\n",
+      "    if run.sender == MASTER:\n        return Refused(12, place)\n"
+      "    master = run.sides[MASTER].printed\n")
+fault("passage: an empty record is 11", PASSED, "passages",
+      "    run = Run()\n", "    run = Run()\n    if not record:\n        return Refused(11, 0)\n")
+fault("passage: the lowest number counts, and not the first entry", "calls V", "passages",
+      REFUSED_AT,
+      "            rest = place + 1\n"
+      "            if number in (11, 12, 13, 3):\n"
+      "                if number != 11:\n"
+      "                    rest = place + 1 + KINDS[record[place]][2]\n"
+      "                if rest < len(record) and record[rest] not in KINDS:\n"
+      "                    return Refused(10, rest)\n" + REFUSED_AT)
+
+# The place beside a refusal.
+fault("passage: the place is that behind the kind", PASSED, "passages",
+      REFUSED_AT, REFUSED_AT.replace("place)", "place + 1)"))
+fault("passage: the place is that behind the entry", PASSED, "passages",
+      REFUSED_AT, REFUSED_AT.replace(
+          "place)", "place + 1 + KINDS.get(record[place], (0, 0, 0))[2])"))
+fault("passage: the place is the number of the entry", PASSED, "passages",
+      NEXT_ENTRY, NEXT_ENTRY + "        run.number = getattr(run, \"number\", 0) + 1\n",
+      (REFUSED_AT, "            return Refused(number, getattr(run, \"number\", 0))\n"))
+fault("passage: of 11 the place is the end of the record", PASSED, "passages",
+      REFUSED_AT, REFUSED_AT.replace("place)", "len(record) if number == 11 else place)"))
+fault("passage: of 3 the place is that of the word", PASSED, "passages",
+      REFUSED_AT, REFUSED_AT.replace("place)", "place if number != 3 else place + 1 + [\n"
+      "                mode_a.may_stand_in_block(word) for word in\n"
+      "                record[place + 1:place + 4]].index(False))"))
+fault("passage: of 3 the index in the offer is beside it", PASSED, "passages",
+      REFUSED_AT, REFUSED_AT.replace("place)", "place if number != 3 else [\n"
+      "                mode_a.may_stand_in_block(word) for word in\n"
+      "                record[place + 1:place + 4]].index(False))"))
+fault("passage: of 12 the place is that of the damage", PASSED, "passages",
+      REFUSED_AT, REFUSED_AT.replace("place)", "place + (number == 12))"))
+fault("passage: of 13 the place is that of the offer that stands", PASSED, "passages",
+      REFUSED_AT, REFUSED_AT.replace(
+          "place)", "place if number != 13 else run.made[KINDS[record[place]][1]])"),
+      (NEXT_ENTRY, "        if record[place] > 2:\n"
+       "            run.made[KINDS[record[place]][1]] = place\n" + NEXT_ENTRY),
+      ("    run = Run()\n", "    run = Run()\n    run.made = {}\n"))
+for bits in (8, 12, 16):
+    fault("passage: the place has %d bits" % bits, "passage" if bits == 16 else PASSED,
+          "passages", REFUSED_AT,
+          REFUSED_AT.replace("place)", "place %% %d)" % 2 ** bits))
+
+# What is printed.
+fault("passage: each block is printed from letters", PASSED, "passages", CASE_KEPT, "")
+fault("passage: the case is one for both stations", PASSED, "passages",
+      CASE_KEPT, "    for one in run.sides.values():\n        one.case = written.case\n")
+fault("passage: the case goes back to letters at a turn", PASSED, "passages",
+      CASE_KEPT, CASE_KEPT + "    if side.station.place == mode_a.ASKING:\n"
+      "        side.case = \"letters\"\n")
+fault("passage: printing starts in figures", PASSED, "passages",
+      "        self.case = \"letters\"\n", "        self.case = \"figures\"\n")
+fault("passage: what a station sends is printed by it", PASSED, "passages",
+      PRINTED, "    run.sides[run.sender].printed += room[:written.length]\n")
+fault("passage: only what is not a repetition of the last block is printed", PASSED,
+      "passages", PRINTED,
+      "    if not answer.printed or answer.printed != getattr(side, \"last\", None):\n"
+      "        side.printed += room[:written.length]\n"
+      "    side.last = answer.printed or getattr(side, \"last\", None)\n")
+fault("passage: an over is not printed", PASSED, "passages",
+      PRINTED, "    if run.burst != mode_a.OVER:\n    " + PRINTED)
+fault("passage: who are you is not printed", PASSED, "passages",
+      PRINTED, "    side.printed += room[:written.length].replace(b\"\\5\", b\"\")\n")
+fault("passage: what a station at Asking printed last is lost", PASSED, "passages",
+      PRINTED, "    if side.station.place != mode_a.ASKING:\n    " + PRINTED)
+fault("passage: over 8,192 bytes of a station are refused", "passage", "passages",
+      "    master = run.sides[MASTER].printed\n",
+      "    if any(len(side.printed) > 8192 for side in run.sides.values()):\n"
+      "        return Refused(13, place)\n    master = run.sides[MASTER].printed\n")
+fault("passage: a station prints 8,192 bytes at most", "passage", "passages",
+      PRINTED, "    if len(side.printed) + written.length <= 8192:\n    " + PRINTED)
+fault("passage: a master prints 65,536 bytes at most", "passage", "passages",
+      "    master = run.sides[MASTER].printed\n",
+      "    master = run.sides[MASTER].printed[:65536]\n")
+fault("passage: a slave prints 65,536 bytes at most", "passage", "passages",
+      "    slave = run.sides[SLAVE].printed\n",
+      "    slave = run.sides[SLAVE].printed[:65536]\n")
+
+# The rooms.
+fault("passage: the slave's room is judged first", "calls V", "passages",
+      MASTER_NEEDS + SLAVE_NEEDS, SLAVE_NEEDS + MASTER_NEEDS)
+fault("passage: a room as long as needed is refused, of the master", "calls V", "passages",
+      MASTER_NEEDS, MASTER_NEEDS.replace("> len(master_room)", ">= len(master_room) > 0"))
+fault("passage: a room as long as needed is refused, of the slave", "calls V", "passages",
+      SLAVE_NEEDS, SLAVE_NEEDS.replace("> len(slave_room)", ">= len(slave_room) > 0"))
+fault("passage: no room is refused where none is needed, of the master", "calls V",
+      "passages", MASTER_NEEDS, MASTER_NEEDS.replace("if len(master) >", "if max(len(master), 1) >"))
+fault("passage: no room is refused where none is needed, of the slave", "calls V",
+      "passages", SLAVE_NEEDS, SLAVE_NEEDS.replace("if len(slave) >", "if max(len(slave), 1) >"))
+for name, needs in (("master", MASTER_NEEDS), ("slave", SLAVE_NEEDS)):
+    fault("passage: a room one too short is taken, of the %s" % name, "calls V", "passages",
+          needs, needs.replace("(%s) >" % name, "(%s) - 1 >" % name),
+          ("    %s_room[:len(%s)] = %s\n" % (name, name, name),
+           "    %s_room[:len(%s)] = %s[:len(%s_room)]\n" % (name, name, name, name)))
+    fault("passage: 2 tells one more than is needed, of the %s" % name, "calls V", "passages",
+          needs, needs.replace("2, len(%s)" % name, "2, len(%s) + 1" % name))
+    fault("passage: 2 tells what is missing, of the %s" % name, "calls V", "passages",
+          needs, needs.replace("2, len(%s)" % name, "2, len(%s) - len(%s_room)"
+                               % (name, name)))
+    fault("passage: 2 tells what both need together, of the %s" % name, "calls V", "passages",
+          needs, needs.replace("2, len(%s)" % name, "2, len(master) + len(slave)"))
+    fault("passage: 2 tells what the other needs, of the %s" % name, "calls V", "passages",
+          needs, needs.replace(
+              "2, len(%s)" % name, "2, len(%s)" % ("slave" if name == "master" else "master")))
+    fault("passage: 2 tells the length of the room, of the %s" % name, "calls V", "passages",
+          needs, needs.replace("2, len(%s)" % name, "2, len(%s_room)" % name))
+    fault("passage: 2 writes what fits, of the %s" % name, "calls V", "passages",
+          needs, needs.replace("        return", "        %s_room[:] = %s[:len(%s_room)]\n"
+                               "        return" % (name, name, name)))
+    fault("passage: the room behind what is printed is cleared, of the %s" % name,
+          "calls V", "passages", "    %s_room[:len(%s)] = %s\n" % (name, name, name),
+          "    %s_room[:] = %s + bytes(len(%s_room) - len(%s))\n" % (name, name, name, name))
+    fault("passage: a room that is not needed is cleared, of the %s" % name,
+          "calls V", "passages", "    %s_room[:len(%s)] = %s\n" % (name, name, name),
+          "    %s_room[:len(%s)] = %s or bytes(len(%s_room))\n" % (name, name, name, name))
+    fault("passage: nothing is written, of the %s" % name, "calls V, passage", "passages",
+          "    %s_room[:len(%s)] = %s\n" % (name, name, name), "")
+fault("passage: the master's room is written before the slave's is judged", "calls V",
+      "passages", SLAVE_NEEDS, MASTER_WRITTEN + SLAVE_NEEDS,
+      (MASTER_WRITTEN + SLAVE_WRITTEN, SLAVE_WRITTEN))
+fault("passage: the slave's room is written where the master's is too short", "calls V",
+      "passages", MASTER_NEEDS, MASTER_NEEDS.replace(
+          "        return", "        slave_room[:len(slave)] = slave[:len(slave_room)]\n"
+          "        return"))
+fault("passage: what is printed before a fault is written", "calls V", "passages",
+      REFUSED_AT,
+      "            for room, side in ((master_room, run.sides[MASTER]),\n"
+      "                               (slave_room, run.sides[SLAVE])):\n"
+      "                some = side.printed[:len(room)]\n"
+      "                room[:len(some)] = some\n" + REFUSED_AT)
+fault("passage: 2 before the record's own refusals", "calls V", "passages",
+      REFUSED_AT,
+      "            if len(run.sides[MASTER].printed) > len(master_room):\n"
+      "                return Refused(2, len(run.sides[MASTER].printed))\n"
+      "            if len(run.sides[SLAVE].printed) > len(slave_room):\n"
+      "                return Refused(2, len(run.sides[SLAVE].printed))\n" + REFUSED_AT)
+fault("passage: 2 as soon as a room is full", "calls V", "passages",
+      NEXT_ENTRY, NEXT_ENTRY +
+      "        for room, whose in ((master_room, MASTER), (slave_room, SLAVE)):\n"
+      "            if len(run.sides[whose].printed) > len(room):\n"
+      "                return Refused(2, len(run.sides[whose].printed))\n")
+fault("passage: the rooms are exchanged", "calls V", "passages",
+      "    run = Run()\n",
+      "    master_room, slave_room = slave_room, master_room\n    run = Run()\n")
+
+# The program, and V of `calls`.
+TELLS_LONG = "    if len(data) > MOST_RECORD:\n        return b\"\", TOO_LONG\n"
+PASSAGE_OUT = ("    return (b\"master %d\\n\" % answer.master + master[:answer.master] "
+               "+ b\"\\n\"\n")
+PASSAGE_OUT_2 = ("            + b\"slave %d\\n\" % answer.slave + slave[:answer.slave] "
+                 "+ b\"\\n\"), None\n")
+
+fault("passage: 262,144 bytes are too long", "passage", "programs",
+      TELLS_LONG, TELLS_LONG.replace(">", ">="))
+fault("passage: 262,145 bytes are not too long", "passage", "programs",
+      TELLS_LONG, TELLS_LONG.replace("> MOST_RECORD", "> MOST_RECORD + 1"))
+fault("passage: what is too long is cut", "passage", "programs",
+      TELLS_LONG, "    data = data[:MOST_RECORD]\n")
+fault("passage: a fault in what is too long is told first", "passage", "programs",
+      TELLS_LONG,
+      "    if len(data) > MOST_RECORD and data[0] in passages.KINDS:\n"
+      "        return b\"\", TOO_LONG\n")
+fault("passage: too long has other words", "passage", "programs",
+      "TOO_LONG = \"too long: over 262144 bytes\"", "TOO_LONG = \"too long\"")
+fault("passage: too long is told on standard output", "passage", "programs",
+      TELLS_LONG, TELLS_LONG.replace("b\"\", TOO_LONG", "TOO_LONG.encode(), None"))
+fault("passage: the master's part is not ended", "passage", "programs",
+      PASSAGE_OUT, PASSAGE_OUT.replace("+ b\"\\n\"\n", "\n"))
+fault("passage: the slave's part is not ended", "passage", "programs",
+      PASSAGE_OUT_2, PASSAGE_OUT_2.replace("slave[:answer.slave] + b\"\\n\"",
+                                           "slave[:answer.slave]"))
+fault("passage: an empty part is not ended", "passage", "programs",
+      PASSAGE_OUT, PASSAGE_OUT.replace("+ b\"\\n\"\n", "+ b\"\\n\"[:answer.master]\n"))
+fault("passage: the names are exchanged", "passage", "programs",
+      "    return (b\"master %d", "    return (b\"slave %d",
+      ("            + b\"slave %d", "            + b\"master %d"))
+fault("passage: the numbers are exchanged", "passage", "programs",
+      "\"master %d\\n\" % answer.master +", "\"master %d\\n\" % answer.slave +",
+      ("\"slave %d\\n\" % answer.slave +", "\"slave %d\\n\" % answer.master +"))
+fault("passage: the whole room is written", "passage", "programs",
+      "+ slave[:answer.slave] +", "+ slave +")
+fault("passage: the program's rooms have 8,192 bytes", "passage", "programs",
+      "    master, slave = bytearray(MOST_RECORD), bytearray(MOST_RECORD)\n",
+      "    master, slave = bytearray(8192), bytearray(8192)\n",
+      ("13: NOT_TAKEN_YET, 3:", "13: NOT_TAKEN_YET, 2: \"no room\", 3:"))
+fault("passage: what was printed before a refusal is written", "passage", "programs",
+      "        return b\"\", refused(answer, {10:",
+      "        return b\"master 0\\n\\nslave 0\\n\\n\", refused(answer, {10:")
+for one, other in ((10, "NO_SUCH_KIND"), (11, "CUT_BODY"), (12, "OUT_OF_TURN"),
+                   (13, "NOT_TAKEN_YET"), (3, "NOT_IN_A_BLOCK")):
+    told = "NO_SUCH_KIND" if one != 10 else "CUT_BODY"
+    fault("passage: refusal %d in the words of another" % one, "passage", "programs",
+          " %d: %s" % (one, other) if one != 10 else "{10: NO_SUCH_KIND",
+          " %d: %s" % (one, told) if one != 10 else "{10: CUT_BODY")
+
+LENT_TWO = "    rooms = low_first(head[0:2]), low_first(head[2:4])\n"
+JUDGES_ROOMS = "    judge_room(max(rooms))\n"
+V_SHOWN = "    shown = (master.hex().upper() or \"-\", slave.hex().upper() or \"-\")\n"
+V_OK = "line = \"ok %d %d %s %s\\n\" % (answer.master, answer.slave, *shown)"
+
+fault("calls V: no such kind", "calls V, calls", "programs",
+      "            elif kind == b\"V\":\n", "            elif kind == b\"V\" and False:\n")
+fault("calls V: the rooms are exchanged", "calls V", "programs",
+      LENT_TWO, "    rooms = low_first(head[2:4]), low_first(head[0:2])\n")
+fault("calls V: the high byte of a room comes first", "calls V", "programs",
+      LENT_TWO, "    rooms = tuple(int.from_bytes(head[one:one + 2], \"big\") % 8193\n"
+      "                  for one in (0, 2))\n")
+fault("calls V: only the master's room is judged", "calls", "programs",
+      JUDGES_ROOMS, "    judge_room(rooms[0])\n")
+fault("calls V: only the slave's room is judged", "calls", "programs",
+      JUDGES_ROOMS, "    judge_room(rooms[1])\n")
+fault("calls V: the rooms are judged together", "calls V, calls", "programs",
+      JUDGES_ROOMS, "    judge_room(sum(rooms))\n")
+fault("calls V: a room of 8,192 is over", "calls V, calls", "programs",
+      JUDGES_ROOMS, "    judge_room(max(rooms) + 1)\n")
+fault("calls V: the length is judged before the rooms", "calls", "programs",
+      JUDGES_ROOMS, "    judge_length(length)\n" + JUDGES_ROOMS)
+fault("calls V: a list cut short comes before a room over", "calls", "programs",
+      JUDGES_ROOMS, "    if length <= MOST_LENGTH:\n        cut(data, place + 6, length)\n"
+      + JUDGES_ROOMS)
+fault("calls V: the length is not judged", "calls", "programs",
+      "    judge_length(length)\n    record = cut(data, place + 6, length)\n",
+      "    record = cut(data, place + 6, length)\n")
+fault("calls V: a record cut short is run as far as it goes", "calls", "programs",
+      "    record = cut(data, place + 6, length)\n",
+      "    record = data[place + 6:place + 6 + length]\n")
+fault("calls V: a record of its own is one byte shorter", "calls V", "programs",
+      "    record = cut(data, place + 6, length)\n",
+      "    record = cut(data, place + 6, length)[:max(length - 1, 0)]\n")
+fault("calls V: a room is filled with 0", "calls V", "programs",
+      "    master, slave = (bytearray([FILLED_WITH]) * room for room in rooms)\n",
+      "    master, slave = (bytearray(room) for room in rooms)\n")
+fault("calls V: a room without length is not shown", "calls V", "programs",
+      V_SHOWN, "    shown = (master.hex().upper(), slave.hex().upper())\n")
+fault("calls V: the rooms are shown in the other order", "calls V", "programs",
+      V_SHOWN, "    shown = (slave.hex().upper() or \"-\", master.hex().upper() or \"-\")\n")
+fault("calls V: only what is printed is shown", "calls V", "programs",
+      "        " + V_OK, "        line = \"ok %d %d %s %s\\n\" % (answer + tuple(\n"
+      "            room[:printed].hex().upper() or \"-\"\n"
+      "            for room, printed in zip((master, slave), answer)))")
+fault("calls V: a refusal ends the program", "calls V", "programs",
+      "        line = \"refused %d %d %s %s\\n\" % (answer.number, answer.beside, *shown)\n",
+      "        raise BadRecord(\"refused\")\n")
+fault("calls V: the numbers are exchanged", "calls V", "programs",
+      V_OK, V_OK.replace("answer.master, answer.slave", "answer.slave, answer.master"))
+
 # --- The programs: what is told, and the status ---
 
-ALL = "encode, print, send, receive, hear, steps, calls"
-TELLING = "encode, print, send, receive, calls"
+ALL = "encode, print, send, receive, hear, passage, steps, calls"
+TELLING = "encode, print, send, receive, passage, calls"
 
 fault("the program's name is missing", ALL, "programs",
       "return (\"%s: %s\\n\" % (name, told))", "return (\"%s\\n\" % told)")
@@ -2525,10 +3119,11 @@ fault("usage has status 1", ALL, "programs",
 fault("usage is told on standard output", ALL, "programs",
       "return Answer(b\"\", error_line(name, usage), NOT_RUN)",
       "return Answer(error_line(name, usage), b\"\", NOT_RUN)")
-fault("usage is told behind the answer", "encode, print, send, receive, hear, steps, calls M",
-      "programs", "return Answer(b\"\", error_line(name, usage), NOT_RUN)",
+fault("usage is told behind the answer",
+      "encode, print, send, receive, hear, passage, steps, calls M", "programs",
+      "return Answer(b\"\", error_line(name, usage), NOT_RUN)",
       "return Answer(PROGRAMS[name](data)[0], error_line(name, usage), NOT_RUN)")
-fault("a refusal is told without its words", "encode, print, send", "programs",
+fault("a refusal is told without its words", "encode, print, send, passage", "programs",
       "    return \"refused %d %d: %s\" % (\n        refusal.number, refusal.beside,\n"
       "        meanings[refusal.number].format(refusal.beside))",
       "    return \"refused %d %d\" % (refusal.number, refusal.beside)")
@@ -2643,6 +3238,9 @@ def pieces_of(name, all_cases):
             for teller, found in pieces.items()}
 
 
+# What has told a fault is tried first for the next one, but for inputs longer than
+# this: `passage` has some that take a second.
+LONG = 100000
 SHORT_ONES_FIRST = 40
 SHORT_TO_A_LONG_ONE = 6
 
@@ -2697,7 +3295,7 @@ class Trial:
                 trouble = ended
                 continue
             if given != self.answer(teller, index):
-                if index not in told:
+                if index not in told and len(pieces[index][1]) <= LONG:
                     told.append(index)
                     told.sort()
                 return True

@@ -13,9 +13,11 @@ import random
 from collections import namedtuple
 
 import broadcast
+import passages
 import programs
 import station as mode_a
 import text
+from passages import MASTER, SLAVE
 from refusal import Refused
 from signals import (ALPHA, BETA, CARRIAGE_RETURN, CS1, CS2, CS3, CS4, CS5, FIGURES,
                      IDENTITY_SIGNALS, LETTERS, LINE_FEED, MEANING, PLUS, QUERY,
@@ -2573,6 +2575,389 @@ def steps_cases(draw):
     return out
 
 
+# --- passage (02, T-07) ---
+
+KIND_OF = {(what, whose): kind for kind, (what, whose, _) in passages.KINDS.items()}
+BOTH = (MASTER, SLAVE)
+# Letters that stand for themselves: no shift, no D, and in letters no over.
+SPELT = [word for word in TRAFFIC if chr(text.printed_in_letters(word)[0] or 0)
+         in "ABCEFGHIJKLMNOPQRSTUVWXYZ"]
+
+
+class Passage:
+    """A record in the making.  Each entry is run as it is put behind the others, so
+    that the next one can be chosen by where the two stations are."""
+
+    def __init__(self, record=b""):
+        self.run = passages.Run()
+        self.record = bytearray()
+        place = 0
+        while place < len(record):
+            assert passages.refusal_of(self.run, record, place) is None
+            place = passages.go(self.run, record, place)
+        self.record += record
+
+    def put(self, what, whose, *body):
+        entry = bytes((KIND_OF[what, whose], *body))
+        assert passages.refusal_of(self.run, entry, 0) is None
+        passages.go(self.run, entry, 0)
+        self.record += entry
+
+    def bursts(self, number, damage=0):
+        for _ in range(number):
+            self.put("burst", self.run.sender, damage)
+
+    def station(self, whose):
+        return self.run.sides[whose].station
+
+    def free(self, whose):
+        """Whether an offer may be made to that station."""
+        return self.run.sides[whose].offer is None
+
+    def offer(self, draw, whose, what):
+        """An offer, where it may be made."""
+        if self.free(whose):
+            self.put(what, whose, *(block(draw) if what == "text" else ()))
+
+    def hearer(self):
+        return passages.OTHER[self.run.sender]
+
+    def needed(self):
+        """The rooms for the master and for the slave."""
+        return tuple(len(self.run.sides[whose].printed) for whose in BOTH)
+
+
+def damage_of(draw, chance):
+    return sum(1 << index for index in range(3) if draw.random() < chance)
+
+
+def telegram(draw):
+    """The blocks of a text that begins with a shift, the last filled with beta."""
+    body = letter(draw, draw.randint(1, 30))
+    room = bytearray(2 * len(body))
+    written = text.encode("letters", body, room)
+    words = [LETTERS, *room[:written.length], BETA, BETA]
+    return [tuple(words[start:start + 3]) for start in range(0, len(words) - 2, 3)]
+
+
+def sent_home(draw, most, chance):
+    """A passage as the engineers bring it home: each desk sends a telegram, hands the
+    direction over, asks who is there, and breaks in now and then."""
+    made = Passage()
+    telegrams = {whose: telegram(draw) for whose in BOTH}
+    ends = draw.choice((0, 0, 0.02))
+    for _ in range(most):
+        for whose in draw.sample(BOTH, 2):
+            if not made.free(whose):
+                continue
+            place = made.station(whose).place
+            chosen = draw.random()
+            if place in (RECEIVING, ASKING, STANDBY, LOST) and chosen > 0.03:
+                continue
+            if chosen < 0.01:
+                made.put("over", whose)
+            elif telegrams[whose]:
+                made.put("text", whose, *telegrams[whose].pop(0))
+            else:
+                made.put("end" if draw.random() < ends else "over", whose)
+                telegrams[whose] = telegram(draw)
+        made.bursts(1, damage_of(draw, chance))
+    return made
+
+
+def any_passage(draw, most, chance):
+    """A passage with offers of any sort, whatever the place, and stretches in which
+    one station hears nothing, or both."""
+    made = Passage()
+    often = draw.choice((0.2, 0.5, 1))
+    ends = draw.choice((0, 0, 0, 0.02))
+    deaf, left = (), 0
+    for _ in range(most):
+        for whose in draw.sample(BOTH, draw.randrange(3)):
+            if draw.random() < often:
+                chosen = draw.random()
+                made.offer(draw, whose, "end" if chosen < ends else
+                           "over" if chosen < 0.15 else "text")
+        if left == 0 and draw.random() < 0.02:
+            deaf = draw.choice(((MASTER,), (SLAVE,), BOTH))
+            left = draw.choice((4, 10, 33, 64))
+        damage = damage_of(draw, chance)
+        if left > 0:
+            left -= 1
+            damage = 7 if made.hearer() in deaf else damage
+        made.bursts(1, damage)
+    return made
+
+
+def crowded(draw, most, chance):
+    """A passage with an offer at each desk whenever one may be made, and many turns: a
+    station that is a step ahead or behind prints more or less."""
+    made = Passage()
+    for _ in range(most):
+        for whose in BOTH:
+            made.offer(draw, whose, draw.choice(("text", "text", "over")))
+        made.bursts(1, damage_of(draw, chance))
+    return made
+
+
+def revealed(draw, made, bursts=14):
+    """Puts what shows where the two stations are: text at each desk, undamaged."""
+    for _ in range(bursts):
+        for whose in BOTH:
+            if made.free(whose) and draw.random() < 0.7:
+                made.put("text", whose, *draw.choices(SPELT, k=3))
+        made.bursts(1)
+    return made
+
+
+def led_passage(draw, whose, place):
+    """A passage that has led one station to a place, and whose burst this station is
+    to hear next; at Stand-by and Lost it has no offer."""
+    while True:
+        made = Passage()
+        for _ in range(80):
+            station = made.station(whose)
+            if (station.place == place and station.count == 0
+                    and made.hearer() == whose and len(made.record) > 4):
+                return made
+            if place == LOST:
+                made.bursts(1, 7)
+                continue
+            for one in BOTH:
+                sends = made.station(one).place in (SENDING, OPENING)
+                if place in (ENDING, STANDBY):
+                    # Only who takes it is offered something, at last the end.
+                    if sends:
+                        made.offer(draw, one, "end" if draw.random() < 0.2
+                                   else draw.choice(("text", "text", "over")))
+                elif draw.random() < 0.6:
+                    made.offer(draw, one, draw.choice(("text", "text", "over")))
+            made.bursts(1, damage_of(draw, 0.02))
+
+
+def starved_passage(draw, whose, place, bad, offer):
+    """A station at a place, with an offer or without, that hears damaged bursts so
+    often; and what shows whether it is Lost."""
+    made = led_passage(draw, whose, place)
+    if offer is not None:
+        made.offer(draw, whose, offer)
+    for _ in range(bad):
+        made.bursts(1, draw.choice((7, 7, 1)) if place not in (RECEIVING, ASKING)
+                    else draw.choice((7, 2, 4)))
+        made.bursts(1)
+    return revealed(draw, made)
+
+
+def questioned_passage(draw, whose, question, later, offer):
+    """A station is asked who it is; some bursts later an offer is made to it, which
+    waits for the answer."""
+    made = Passage()
+    if whose == MASTER:
+        made = Passage(TURNED)
+    asks = passages.OTHER[whose]
+    waiting = list(question)
+    for _ in range(10):
+        # One of the questions is none, for its D is in letters.
+        if made.station(whose).owed is not None:
+            break
+        if waiting and made.free(asks):
+            made.put("text", asks, *waiting.pop(0))
+        made.bursts(1)
+    made.bursts(later)
+    made.offer(draw, whose, offer)
+    return revealed(draw, made)
+
+
+def upset(draw, record):
+    """A record with one thing wrong in it, or more."""
+    record = bytearray(record)
+    for _ in range(draw.choice((1, 1, 1, 2, 4))):
+        at = draw.randrange(len(record) + 1)
+        chosen = draw.randrange(7)
+        if chosen == 0:
+            del record[at:]
+        elif chosen == 1:
+            del record[at:at + draw.choice((1, 1, 2, 4))]
+        elif chosen == 2:
+            record[at:at] = bytes(draw.choices(WORDS, k=draw.randint(1, 3)))
+        elif chosen == 3:
+            record[at:at] = bytes([draw.randrange(10)])
+        elif chosen == 4:
+            record[at:at] = record[max(at - draw.randint(1, 8), 0):at]
+        elif at < len(record):
+            record[at] = (record[at] ^ 1 << draw.randrange(8) if chosen == 5
+                          else draw.choice(WORDS))
+    return bytes(record)
+
+
+def begun_passages(draw):
+    """Records without a fault, by what stands behind them: the slave's burst or the
+    master's to be heard, with an offer to each station and without; stations that take
+    none."""
+    for bursts in (0, 1, 2, 5):
+        for offered in ((), (MASTER,), (SLAVE,), BOTH):
+            made = Passage()
+            made.bursts(bursts)
+            for whose in offered:
+                made.offer(draw, whose, draw.choice(("text", "over", "end")))
+            yield made
+    for place in (STANDBY, LOST):
+        for whose in BOTH:
+            yield led_passage(draw, whose, place)
+
+
+def hostile_entries(draw, made):
+    """Entries behind a record that are refused there, one behind another reason too."""
+    sender = made.run.sender
+    bad = draw.choice(NOT_IN_BLOCK)
+    for whose in BOTH:
+        turn = KIND_OF["burst", whose]
+        # Cut at each length, with what would be refused 12, 13 or 3.
+        yield bytes([turn])
+        for length in range(3):
+            for words in (draw.choices(IN_BLOCK, k=3), [bad] * 3):
+                yield bytes([KIND_OF["text", whose], *words[:length]])
+        # Bits 3 to 7, in turn and not.
+        yield bytes([turn, draw.randint(8, 255)])
+        yield bytes([turn, 1 << draw.randint(3, 7)])
+        yield bytes([turn, 128 | draw.randrange(8)])
+        if whose != sender:
+            yield bytes([turn, draw.randrange(8)])
+        for what in ("over", "end", "text"):
+            body = draw.choices(IN_BLOCK, k=3) if what == "text" else []
+            kind = KIND_OF[what, whose]
+            if not made.free(whose):
+                yield bytes([kind, *body])
+            else:
+                # The second of two.
+                for first in ("over", "end", "text"):
+                    words = draw.choices(IN_BLOCK, k=3) if first == "text" else []
+                    yield bytes([KIND_OF[first, whose], *words, kind, *body])
+        # A word that may not stand there, and 13 before it where that holds.
+        words = draw.choices(IN_BLOCK, k=3)
+        words[draw.randrange(3)] = bad
+        yield bytes([KIND_OF["text", whose], *words])
+    yield bytes([draw.choice((0, 9, 10, 255))])
+
+
+def to_the_slave(draw, blocks):
+    """Text to the master, so many blocks, that the slave prints: eight bytes of a
+    record each."""
+    return b"".join(bytes((3, *draw.choices(SPELT, k=3), 2, 0, 1, 0))
+                    for _ in range(blocks))
+
+
+# The slave breaks in: it has the direction behind this, and is to hear.
+TURNED = bytes([6, 2, 0, 1, 0, 2, 0, 1, 0, 2, 0])
+
+
+def to_the_master(draw, blocks):
+    """The other way round, behind TURNED."""
+    return b"".join(bytes((4, *draw.choices(SPELT, k=3), 1, 0, 2, 0))
+                    for _ in range(blocks))
+
+
+def passed_in(draw, size):
+    """A record whose answer comes to `size` bytes, all of it printed by the slave."""
+    printed = 0
+    while len(b"master 0\n\nslave %d\n\n" % printed) + printed < size:
+        printed += 1
+    record = bytearray(to_the_slave(draw, (printed + 2) // 3))
+    short = -printed % 3
+    record[1:1 + short] = bytes([BETA] * short)
+    return bytes(record)
+
+
+def long_passages(draw):
+    """Around the limit of the program."""
+    most = programs.MOST_RECORD
+    slave = to_the_slave(draw, most // 8)
+    assert len(slave) == most
+    yield "the most that a slave prints", slave
+    # Over 65,536 bytes.
+    yield "much that a master prints", TURNED + to_the_master(draw, 22000)
+    yield "a fault at the very end", slave[:-2] + b"\5\1"
+    # One more: nothing is run, whatever is wrong with it.
+    yield "too long, and clean", slave + b"\7"
+    for size in (most - 1, most, most + 1, most + 100):
+        for first in (0, 1, 2) if size in (most, most + 1) else (0,):
+            yield ("%d bytes, the first is %d" % (size, first),
+                   bytes([first]) + bytes(size - 1))
+
+
+def passage_cases(draw):
+    example = bytes([3, 113, 89, 86, 2, 0, 1, 0])
+    out = [quickly("empty", b""), quickly("ONE", example),
+           slowly("ONE", example),
+           quickly("offers alone", bytes([3, 71, 86, 51, 8])),
+           slowly("a passage", bytes(revealed(draw, Passage(), 30).record)),
+           in_pieces("a passage", sent_home(draw, 300, 0.05).record),
+           in_pieces("a passage upset", upset(draw, sent_home(draw, 300, 0.05).record))]
+    out.extend(with_words(example))
+    for damage in (1, 2, 4):
+        out.append(quickly("CS1, damaged by %d" % damage, example[:5] + bytes([damage, 1, 0])))
+        out.append(quickly("ONE, damaged by %d" % damage, example[:7] + bytes([damage])))
+    for size in OUTPUT_SIZES:
+        out.append(from_file("%d bytes written" % size, passed_in(draw, size)))
+    for size in (BLOCK - 1, BLOCK, BLOCK + 1, 2 * BLOCK):
+        # Text to the slave alone, so that it may end in an entry or behind one.
+        out.append(from_file("%d bytes read" % size,
+                             to_the_slave(draw, BLOCK // 4 + 1)[:size]))
+    # Each sort of refusal, behind nothing and behind a passage.
+    for entry in ((0,), (9,), (0, *example), (255, *example), (1,), (2,), (3,), (4, 71, 71),
+                  (1, 0, *example), (2, 8, *example), (2, 0, 2, 0), (2, 0, 1, 0, 1, 0),
+                  (5, 5), (3, 71, 71, 71, 7), (8, 6), (7, 2, 1, 3, 71, 71, 71),
+                  (6, 2, 0, 4, 71, 15, 71), (4, 71, 71, 71, 4, 71, 71, 71),
+                  (3, 71, 15, 71), (3, 71, 86, 102), (4, 0, 71, 71, *example)):
+        out.append(quickly("refused at once", bytes(entry)))
+    for made in (sent_home(draw, 60, 0.05), any_passage(draw, 61, 0.05)):
+        entries = list(hostile_entries(draw, made))
+        for entry in draw.sample(entries, 6):
+            out.append(quickly("refused behind a passage", made.record + entry))
+    # Stations that take no offer any more: one that stands, and another one behind it.
+    for place in (STANDBY, LOST):
+        for whose in BOTH:
+            made = led_passage(draw, whose, place)
+            made.bursts(2)
+            made.offer(draw, whose, draw.choice(("text", "over", "end")))
+            made.bursts(draw.randint(2, 5))
+            record = bytes(made.record)
+            out.append(quickly("an offer at %s" % place, record))
+            out.append(quickly("another offer at %s" % place, record + bytes(
+                [KIND_OF[draw.choice(("over", "end")), whose]])))
+    for bad in (31, 32):
+        for whose in BOTH:
+            out.append(quickly("%d bad bursts" % bad, starved_passage(
+                draw, whose, draw.choice((SENDING, OPENING)), bad, None).record))
+    # More than `print` takes in one call.
+    out.append(quickly("over 8,192 signals", to_the_slave(draw, 2800)))
+    out.append(quickly("over 8,192 signals", TURNED + to_the_master(draw, 2800)))
+    for most in (40, 60, 90, 120):
+        out.append(quickly("many turns", crowded(draw, most, 0.15).record))
+    for number in range(10):
+        chance = (0, 0.02, 0.1, 0.3)[number % 4]
+        most = draw.choice((20, 200, 1000))
+        made = (sent_home if number % 3 else any_passage)(draw, most, chance)
+        out.append(quickly("a passage of %d bursts" % most, made.record))
+        if number % 2 == 0:
+            out.append(quickly("a passage upset", upset(draw, made.record)))
+    for about, record in long_passages(draw):
+        out.append(quickly(about, record))
+    return out
+
+
+def passage_entries(data):
+    """Places of the entries of a record, first byte and the one behind the last, up
+    to the first that is none or is cut short."""
+    first = 0
+    while first < len(data) and data[first] in passages.KINDS:
+        behind = first + 1 + passages.KINDS[data[first]][2]
+        if behind > len(data):
+            return
+        yield first, behind
+        first = behind
+
+
 # --- calls ---
 
 CALLS_IN_A_CASE = 800
@@ -2974,7 +3359,159 @@ def code_records(draw):
         yield b"C" + code
 
 
-KINDS = b"EPSMRIJC"
+def passage_record(rooms, record):
+    return (b"V" + low_first(rooms[0], 2) + low_first(rooms[1], 2)
+            + low_first(len(record), 2) + bytes(record))
+
+
+def lent_rooms(draw, needed, sort):
+    """For the master and for the slave: as needed, one of them one less or both, more,
+    none, those of the other."""
+    master, slave = needed
+    return ((master, slave), (max(master - 1, 0), slave), (master, max(slave - 1, 0)),
+            (max(master - 1, 0), max(slave - 1, 0)), (master + 1, slave + 2),
+            (0, 0), (0, slave), (master, 0), (slave, master),
+            (draw.randrange(master + 2), draw.randrange(slave + 2)))[sort]
+
+
+ROOM_SORTS = range(10)
+
+
+def with_rooms(draw, made, sort=None):
+    """A V record of a passage without a fault, with rooms of one sort."""
+    if sort is None:
+        sort = draw.choice((0, 0, 0, 1, 2, 4, 9))
+    return passage_record(lent_rooms(draw, made.needed(), sort), made.record)
+
+
+def judged(draw, record, needed=None):
+    """A V record of a passage that may have a fault: its rooms are short, or long enough
+    for what is printed before that."""
+    if needed is None:
+        needed = draw.choice(((0, 0), (1, 0), (0, 4), (9, 9)))
+    return passage_record(needed, record)
+
+
+def passage_records(draw):
+    """V records (02, T-07)."""
+    yield from refused_passages(draw)
+    # Each damage byte, of the burst in turn and of the other.
+    for damage in WORDS:
+        for bursts in (0, 1, 4):
+            made = Passage()
+            made.offer(draw, MASTER, "text")
+            made.bursts(bursts)
+            if damage < 8:
+                made.bursts(1, damage)
+                yield with_rooms(draw, revealed(draw, made, 8))
+            else:
+                yield judged(draw, made.record + bytes([2 - bursts % 2, damage, 1]))
+        yield judged(draw, bytes([1, damage]))
+        yield judged(draw, bytes([2, 0, 2, damage]))
+    # Each of the eight at each place of the hearer.
+    for whose in BOTH:
+        for place in (SENDING, TURNING, OPENING, ENDING, RECEIVING, ASKING, STANDBY):
+            for damage in range(8):
+                made = led_passage(draw, whose, place)
+                made.bursts(1, damage)
+                yield with_rooms(draw, revealed(draw, made, 6))
+    # The time-out to the burst, with each offer and without.
+    for whose in BOTH:
+        for place in (SENDING, TURNING, OPENING, RECEIVING, ASKING):
+            for bad, offer in ((30, "text"), (31, None), (31, "over"), (32, None),
+                               (32, "text"), (32, "end"), (33, "over")):
+                yield with_rooms(draw, starved_passage(draw, whose, place, bad, offer))
+    # Questions, and an offer while the answer is owed.
+    for whose in BOTH:
+        for question in QUESTIONS:
+            for later in range(9):
+                offer = draw.choice(("text", "over", "end"))
+                yield with_rooms(draw, questioned_passage(draw, whose, question, later,
+                                                          offer))
+    for most in range(10, 70):
+        yield with_rooms(draw, crowded(draw, most, draw.choice((0.05, 0.2))), 0)
+    # Rooms of each sort, beside a fault too.
+    for number in range(20):
+        made = (sent_home if number % 2 else any_passage)(draw, 60, 0.03)
+        for sort in ROOM_SORTS:
+            yield with_rooms(draw, made, sort)
+            rooms = lent_rooms(draw, made.needed(), sort)
+            yield judged(draw, made.record + b"\x09", rooms)
+    for number in range(400):
+        chance = draw.choice((0, 0.02, 0.1, 0.3))
+        most = draw.choice((6, 20, 20, 60, 120))
+        made = (sent_home if number % 2 else any_passage)(draw, most, chance)
+        if number % 3 == 0:
+            made = revealed(draw, made)
+        yield with_rooms(draw, made)
+        for _ in range(2):
+            yield judged(draw, upset(draw, made.record), made.needed())
+    for _ in range(150):
+        yield judged(draw, bytes(draw.choices(WORDS, k=draw.randrange(12))))
+        few = (0, 1, 2, 3, 4, 5, 6, 7, 8, 71, 51)
+        yield judged(draw, bytes(draw.choices(few, k=draw.randrange(14))))
+        # Two passages one behind the other are not two.
+        one, two = (any_passage(draw, draw.randint(1, 9), 0.02).record for _ in BOTH)
+        yield judged(draw, one + two, (15, 15))
+    # The longest that V takes.
+    for record in (to_the_slave(draw, 1024), TURNED + to_the_master(draw, 1022) + b"\5"):
+        made = Passage(record)
+        for sort in (0, 1, 2):
+            yield with_rooms(draw, made, sort)
+    for tail in (b"\1", b"\5", b"\6", b"\7\7"):
+        record = (to_the_slave(draw, 1024) + tail)[-8193:]
+        yield judged(draw, record, (8192, 8192))
+    for record in (b"", b"\0", bytes([2, 0])):
+        for rooms in ((0, 0), (8192, 0), (0, 8192), (255, 256)):
+            yield judged(draw, record, rooms)
+
+
+def refused_passages(draw):
+    """Each reason by itself, and behind another one."""
+    # Each kind first, last and between, and with what would be its body.
+    for kind in WORDS:
+        record = any_passage(draw, draw.randint(1, 5), 0.02).record
+        yield judged(draw, bytes([kind]))
+        yield judged(draw, record + bytes([kind]))
+        yield judged(draw, record + bytes([kind, 0]))
+        yield judged(draw, record + bytes([kind, *draw.choices(IN_BLOCK, k=3)]))
+    # Each word at each place of a text offer, to either station, which then goes out;
+    # and behind an offer that is not taken.
+    for word in WORDS:
+        for index in range(3):
+            words = draw.choices(SPELT, k=3)
+            words[index] = word
+            entry = bytes([draw.choice((3, 4)), *words])
+            if entry[0] == 3:
+                yield judged(draw, entry + bytes([2, 0, 1, 0]), (0, 3))
+            else:
+                yield judged(draw, TURNED + entry + bytes([1, 0, 2, 0]), (3, 0))
+            if word in NOT_IN_BLOCK:
+                words[draw.randrange(3)] = draw.choice(NOT_IN_BLOCK)
+                yield judged(draw, bytes([2, 0, entry[0], *words, 1]))
+                standing = bytes([entry[0] + draw.choice((2, 4))])
+                yield judged(draw, standing + entry)
+    for made in begun_passages(draw):
+        for entry in hostile_entries(draw, made):
+            yield judged(draw, made.record + entry)
+            # The first in the record counts.
+            yield judged(draw, made.record + entry
+                         + bytes(draw.choices(range(10), k=draw.randint(1, 6))))
+    # An offer that is never taken, and another one however much later.
+    for place in (STANDBY, LOST):
+        for whose in BOTH:
+            for first in ("text", "over", "end"):
+                for second in ("text", "over", "end"):
+                    made = led_passage(draw, whose, place)
+                    made.offer(draw, whose, first)
+                    made.bursts(draw.choice((0, 1, 2, 3, 8, 70)))
+                    yield with_rooms(draw, made)
+                    words = draw.choices(IN_BLOCK, k=3) if second == "text" else ()
+                    yield judged(draw, made.record + bytes(
+                        [KIND_OF[second, whose], *words]))
+
+
+KINDS = b"EPSMRIJCV"
 
 
 def hostile_tails(draw):
@@ -3001,13 +3538,28 @@ def hostile_tails(draw):
         whole = text_record(head, 1, 5, bytes([71] * 6))
         for length in range(1, len(whole)):
             yield "record cut to %d" % length, whole[:length]
+    # Of V, either room.
+    for rooms in ((8193, 0), (0, 8193), (65535, 65535), (8192, 8193)):
+        yield "rooms %d and %d" % rooms, passage_record(rooms, b"") + b"E"
+    for head in ((8193, 5), (5, 8193), (5, 5)):
+        over = b"V" + low_first(head[0], 2) + low_first(head[1], 2)
+        reason = "rooms %d and %d, " % head
+        yield reason + "length over", over + low_first(8194, 2) + b"\2"
+        yield reason + "list cut", over + low_first(2, 2) + b"\2"
+        yield reason + "no list", over + low_first(2, 2)
+        yield reason + "length cut", over + b"\2"
+        yield reason + "no length", over
+    for length in (8194, 65535):
+        whole = b"V" + low_first(5, 2) * 2 + low_first(length, 2)
+        yield "length %d" % length, whole + bytes([5]) * length
     for length in (8194, 65535):
         whole = b"S" + low_first(5, 4) + low_first(length, 2)
         yield "length %d" % length, whole + bytes([71]) * length
     for whole in (slot_record(5, [71] * 4), b"M" + bytes([71]),
                   receive_record(draw, run=3, last=1, word=ALPHA),
                   b"I" + bytes([71] * 4), b"J" + bytes([71] * 11),
-                  b"C" + bytes([20] + [71] * 20)):
+                  b"C" + bytes([20] + [71] * 20),
+                  passage_record((2, 3), bytes([3, 71, 71, 71, 2, 0, 1, 0]))):
         for length in range(1, len(whole)):
             yield "record cut to %d" % length, whole[:length]
 
@@ -3019,6 +3571,8 @@ def call_length(data, first):
     if kind in (b"E", b"P"):
         return 6 + int.from_bytes(data[first + 4:first + 6], "little")
     if kind == b"S":
+        return 7 + int.from_bytes(data[first + 5:first + 7], "little")
+    if kind == b"V":
         return 7 + int.from_bytes(data[first + 5:first + 7], "little")
     return {b"M": 2, b"R": 11, b"I": 5, b"J": 12, b"C": 22}.get(kind, 0)
 
@@ -3042,7 +3596,8 @@ def calls_at_borders():
     for whole in (text_record(b"E", 0, 5, b"A1A"), slot_record(40, [71, 86]),
                   b"I" + bytes([71, 86, 71, 101]),
                   b"J" + bytes([71, 86, 71, 86, 71, 86, 71, 86, 71, 86, 101]),
-                  b"C" + bytes([20] + [71, 86] * 9 + [PLUS, QUERY])):
+                  b"C" + bytes([20] + [71, 86] * 9 + [PLUS, QUERY]),
+                  passage_record((0, 3), bytes([3, 71, 86, 71, 2, 0, 1, 0]))):
         data = b""
         # Each byte of a record, of a long one the first, the last and some between.
         behind = range(1, len(whole) + 2)
@@ -3077,7 +3632,8 @@ def calls_cases(draw):
     records = (list(encode_records(draw)) + list(print_records(draw))
                + list(slot_records(draw)) + list(meaning_records())
                + list(receive_records(draw)) + list(identity_records(draw))
-               + list(both_identities_records(draw)) + list(code_records(draw)))
+               + list(both_identities_records(draw)) + list(code_records(draw))
+               + list(passage_records(draw)))
     draw.shuffle(records)
     short = [one for one in records if len(one) < 40]
     out = [quickly("empty", b""), slowly("12 records", b"".join(short[:12])),
@@ -3105,6 +3661,7 @@ MAKERS = {
     "print": print_cases,
     "send": send_cases,
     "receive": receive_cases,
+    "passage": passage_cases,
     "steps": steps_cases,
     "calls": calls_cases,
 }
@@ -3144,9 +3701,13 @@ CONVERSATIONS = {
                b"R" + bytes([0, 3, 1, 0, 0, 0, 0, 0, 0, 15]),
                b"R" + bytes([1, 0, 0, 71, 15, 15, 1, 1, 3, 71]), b"I" + bytes([71] * 4),
                b"J" + bytes([71] * 11), b"C" + bytes([1, 83] + [0] * 19),
-               b"C" + bytes([1, 71] + [0] * 19), b"M", b"eMA", b"?"]],
+               b"C" + bytes([1, 71] + [0] * 19),
+               passage_record((0, 3), bytes([3, 71, 86, 71, 2, 0, 1, 0])),
+               passage_record((3, 3), bytes([1, 0])), b"M", b"eMA", b"?"]],
     "receive": SPOKEN + [SPOKEN[0] + [b"256 "]],
     "encode": [[b"A" * (text.MOST_CHARACTERS + 1)]],
     "print": [[b"71 ", b"7x "], [b"71 " * (text.MOST_SIGNALS + 1)]],
     "send": [[b"71 ", b"256 "]],
+    "passage": [[bytes([3, 71, 86]), bytes([71, 2, 0, 1]), b"\0"],
+                [bytes([2, 0]), bytes(programs.MOST_RECORD - 1)]],
 }

@@ -8,6 +8,7 @@ names them; `run` gives the answer of a whole run.
 from collections import namedtuple
 
 import broadcast
+import passages
 import station as mode_a
 import text
 from refusal import Refused
@@ -180,6 +181,31 @@ def receive(data):
     return write_words(printed), told
 
 
+# --- passage (02, T-07) ---
+
+MOST_RECORD = 262144
+TOO_LONG = "too long: over 262144 bytes"
+
+NO_SUCH_KIND = "no such kind"
+CUT_BODY = "the body is cut short"
+OUT_OF_TURN = "a burst out of turn, or bits 3 to 7 set"
+NOT_TAKEN_YET = "the last offer is not taken yet"
+NOT_IN_A_BLOCK = "a word that is neither traffic nor beta"
+
+
+def passage(data):
+    if len(data) > MOST_RECORD:
+        return b"", TOO_LONG
+    # As long as the longest record: 2 is not refused.
+    master, slave = bytearray(MOST_RECORD), bytearray(MOST_RECORD)
+    answer = passages.passage(data, master, slave)
+    if isinstance(answer, Refused):
+        return b"", refused(answer, {10: NO_SUCH_KIND, 11: CUT_BODY, 12: OUT_OF_TURN,
+                                     13: NOT_TAKEN_YET, 3: NOT_IN_A_BLOCK})
+    return (b"master %d\n" % answer.master + master[:answer.master] + b"\n"
+            + b"slave %d\n" % answer.slave + slave[:answer.slave] + b"\n"), None
+
+
 # --- steps: records of 84 bytes, one step of a station written out ---
 
 RECORD = 84
@@ -331,6 +357,11 @@ def cut(data, place, length):
     return data[place:place + length]
 
 
+def judge_room(length):
+    if length > MOST_ROOM:
+        raise BadRecord("a room over 8192")
+
+
 def judge_length(length):
     if length > MOST_LENGTH:
         raise BadRecord("a length over 8193")
@@ -349,8 +380,7 @@ def text_call(call, data, place):
     case = case_of(head[0])
     room_length = low_first(head[1:3])
     length = low_first(head[3:5])
-    if room_length > MOST_ROOM:
-        raise BadRecord("a room over 8192")
+    judge_room(room_length)
     judge_length(length)
     body = cut(data, place + 5, length)
     room = bytearray([FILLED_WITH]) * room_length
@@ -468,6 +498,24 @@ def standing_by_both_call(data, place):
     return line, place + 11
 
 
+def passage_call(data, place):
+    """A `V` record: a passage, with a room for each station."""
+    head = cut(data, place, 6)
+    rooms = low_first(head[0:2]), low_first(head[2:4])
+    length = low_first(head[4:6])
+    judge_room(max(rooms))
+    judge_length(length)
+    record = cut(data, place + 6, length)
+    master, slave = (bytearray([FILLED_WITH]) * room for room in rooms)
+    answer = passages.passage(record, master, slave)
+    shown = (master.hex().upper() or "-", slave.hex().upper() or "-")
+    if isinstance(answer, Refused):
+        line = "refused %d %d %s %s\n" % (answer.number, answer.beside, *shown)
+    else:
+        line = "ok %d %d %s %s\n" % (answer.master, answer.slave, *shown)
+    return line, place + 6 + length
+
+
 def with_code_call(data, place):
     """A `C` record: an answer-back code, given to a fresh slave."""
     answer = mode_a.with_code(mode_a.fresh_slave(), read_code(cut(data, place, 21)))
@@ -498,6 +546,8 @@ def calls(data):
                 line, behind = standing_by_call(data, place + 1)
             elif kind == b"J":
                 line, behind = standing_by_both_call(data, place + 1)
+            elif kind == b"V":
+                line, behind = passage_call(data, place + 1)
             elif kind == b"C":
                 line, behind = with_code_call(data, place + 1)
             else:
@@ -517,6 +567,7 @@ PROGRAMS = {
     "print": print_,
     "send": send,
     "receive": receive,
+    "passage": passage,
     "steps": steps,
     "calls": calls,
 }

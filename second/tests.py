@@ -22,6 +22,7 @@ sys.dont_write_bytecode = True
 import broadcast  # noqa: E402
 import faults  # noqa: E402
 import inputs  # noqa: E402
+import passages  # noqa: E402
 import programs  # noqa: E402
 import signals  # noqa: E402
 import station as mode_a  # noqa: E402
@@ -2428,6 +2429,246 @@ def demand_three_from_a_call():
     assert seen["losses"] > 20 and seen["exchanges"] > 200
 
 
+# --- A passage (02, T-07) ---
+
+# Words of a text offer, and the entries of two bursts that are heard whole, the
+# slave's first.
+ONE = (113, 89, 86)
+WHOLE = (2, 0, 1, 0)
+
+
+def passed(*record, rooms=(400, 400)):
+    """What the master and the slave print, or the refusal and its value."""
+    lent = [bytearray([170]) * room for room in rooms]
+    result = passages.passage(bytes(record), *lent)
+    if isinstance(result, Refused):
+        # "A refusal prints and sends nothing, writes nothing into lent memory".
+        assert lent == [bytearray([170]) * room for room in rooms]
+        return tuple(result)
+    for room, printed in zip(lent, result):
+        # "room beyond the part written is untouched"
+        assert room[printed:] == bytes([170]) * (len(room) - printed)
+    return tuple(bytes(room[:printed]) for room, printed in zip(lent, result))
+
+
+def passage_examples():
+    assert passed() == (b"", b"")
+    # The fresh master hears the slave's CS1, takes the text, and the slave prints it.
+    assert passed(3, *ONE) == passed(3, *ONE, 2, 0) == (b"", b"")
+    assert passed(3, *ONE, *WHOLE) == (b"", b"ONE")
+    # An offer behind the burst comes one exchange later: the first block is beta.
+    assert passed(2, 0, 3, *ONE, 1, 0) == (b"", b"")
+    assert passed(2, 0, 3, *ONE, 1, 0, *WHOLE) == (b"", b"ONE")
+    # Two equal blocks are two, and one that is sent again is one.
+    assert passed(3, *ONE, *WHOLE, 3, *ONE, *WHOLE) == (b"", b"ONEONE")
+    for damage in range(1, 8):
+        # The slave asks for 1 again.
+        spoilt = (3, *ONE, 2, 0, 1, damage)
+        assert passed(*spoilt) == (b"", b"")
+        assert passed(*spoilt, *WHOLE) == (b"", b"ONE")
+        # Of CS1 the first word alone is read: RQ goes out where that is damaged.
+        spoilt = (3, *ONE, 2, damage, 1, 0)
+        assert passed(*spoilt) == (b"", b"" if damage & 1 else b"ONE")
+        assert passed(*spoilt, *WHOLE) == (b"", b"ONE")
+        # So of CS2, behind ONE: where it is not heard the slave hears RQ RQ RQ, and
+        # asks for 2 again.
+        spoilt = (3, *ONE, *WHOLE, 3, *ONE, 2, damage, 1, 0)
+        assert passed(*spoilt) == (b"", b"ONE" if damage & 1 else b"ONEONE")
+        assert passed(*spoilt, *WHOLE, *WHOLE) == (b"", b"ONEONE")
+    # The case runs on from block to block.
+    figures = (3, FIGURES, A, BETA, *WHOLE, 3, A, A, BLANK, *WHOLE)
+    assert passed(*figures) == (b"", b"---")
+    assert passed(*figures, 3, LETTERS, A, 89, *WHOLE) == (b"", b"---AN")
+    assert passed(3, CARRIAGE_RETURN, LINE_FEED, SPACE, *WHOLE) == (b"", b"\r\n ")
+
+
+def passage_turns():
+    # The master's over: figures + ? is heard, CS3, beta alpha beta, RQ RQ RQ, CS2.
+    over = (5, *WHOLE, *WHOLE, 2, 0)
+    assert passed(5, *WHOLE) == passed(*over) == (b"", b"+?")
+    # The slave sends under 2.  Its direction has a case of its own.
+    assert passed(*over, 4, *ONE, 1, 0) == (b"", b"+?")
+    assert passed(*over, 4, *ONE, 1, 0, 2, 0) == (b"ONE", b"+?")
+    # The same where the offer stood from the start, and beside the over.
+    assert passed(4, *ONE, *over, 1, 0, 2, 0) == (b"ONE", b"+?")
+    # The slave breaks in: it accepts a block of beta, and nothing is printed.
+    turned = (6, *WHOLE, *WHOLE, 2, 0)
+    assert passed(*turned, 4, *ONE, 1, 0, 2, 0) == (b"ONE", b"")
+    # Its over leads back by CS3, beta alpha beta, RQ, and CS1 or CS2.
+    back = (*turned, 6, 1, 0, 2, 0, 1, 0, 2, 0, 1, 0)
+    assert passed(*back) == (b"+?", b"")
+    assert passed(*back, 3, *ONE, *WHOLE) == (b"+?", b"ONE")
+    # An over that Receiving takes is taken: another one may be offered.
+    assert passed(6, *WHOLE, 6, *WHOLE, 2, 0, 1, 0, 2, 0) == (b"+?", b"")
+    # The end: alpha alpha alpha, the slave at Stand-by, and the master too.
+    end = (7, *WHOLE, 2, 0)
+    assert passed(3, *ONE, *WHOLE, *end, 1, 0) == (b"", b"ONE")
+    for offer in ((3, *ONE), (4, *ONE), (5,), (6,), (7,), (8,)):
+        assert passed(*end, *offer) == passed(*end, *offer, *[1, 0, 2, 0] * 70) == (b"", b"")
+        # Which is never taken.
+        for later in ((), (1, 0), [1, 0, 2, 0] * 70):
+            place = len(end) + len(offer) + len(later)
+            assert passed(*end, *offer, *later, *offer) == (13, place)
+
+
+def passage_questions():
+    """02, T-06 and T-07: the answer of a station without a code."""
+    asked = (3, FIGURES, D, BETA, *WHOLE, *WHOLE)
+    assert passed(*asked) == (b"", b"\5")
+    # CS2, beta beta beta, CS1, beta beta beta, CS2, figures + ?.
+    answered = (*asked, *WHOLE, *WHOLE, *WHOLE)
+    assert passed(*answered) == (b"", b"\5")
+    assert passed(*answered, 2, 0) == (b"+?", b"\5")
+    # The direction is the master's again: CS3, beta alpha beta, RQ, CS2.
+    assert passed(*answered, *WHOLE, *WHOLE, 3, LETTERS, *ONE[:2], *WHOLE) == (
+        b"+?", b"\5ON")
+    # An offer to the slave stands meanwhile, and longer, an over too.
+    for offer in ((4, *ONE), (6,)):
+        for at in range(len(asked) + 1, len(answered), 2):
+            longer = (*answered[:at - 1], *offer, *answered[at - 1:], 2, 0)
+            assert passed(*longer) == (b"+?", b"\5")
+            assert passed(*longer, *offer) == (13, len(longer))
+    # With the over in the same block the direction is kept, and what stands is sent.
+    kept = (3, FIGURES, PLUS, BETA, *WHOLE, 3, QUERY, D, BETA, *WHOLE, 4, *ONE, *WHOLE,
+            *WHOLE, *WHOLE)
+    assert passed(*kept) == (b"", b"+?\5")
+    assert passed(*kept, *WHOLE, 2, 0) == (b"ONE", b"+?\5")
+
+
+def passage_time_outs():
+    # "Count 31 and a good block: accepted", by a slave that has heard RQ 31 times.
+    for bad, printed in ((0, b"ONE"), (31, b"ONE"), (32, b""), (33, b"")):
+        for damage in (1, 7):
+            assert passed(3, *ONE, *[2, damage, 1, 0] * bad, *WHOLE) == (b"", printed)
+    # 31 times the block, and the last whole.
+    for bad, printed in ((31, b"ONE"), (32, b"")):
+        for damage in (1, 2, 4, 7):
+            assert passed(3, *ONE, *[2, 0, 1, damage] * bad, *WHOLE) == (b"", printed)
+    # At Lost an offer is never taken.
+    lost = (3, *ONE, *[2, 1, 1, 0] * 32)
+    assert passed(*lost, *WHOLE) == passed(*lost, 4, *ONE, *WHOLE) == (b"", b"")
+    assert passed(*lost, 7) == (13, 132)
+    assert passed(*lost, *WHOLE, 5) == passed(*lost, 4, *ONE, 8) == (13, 136)
+    assert passed(*lost[4:], 3, *ONE, *WHOLE * 40, 5) == (13, 128 + 4 + 160)
+
+
+def passage_refusals():
+    """By number, each with the place of the entry."""
+    text = (3, *ONE)
+    before = ((), WHOLE, text, (*text, *WHOLE), (4, *ONE, 2, 0, 1, 7), (8, *WHOLE * 9))
+    for begun in before:
+        place = len(begun)
+        for kind in (0, *range(9, 256)):
+            assert passed(*begun, kind) == passed(*begun, kind, 0, 0, 0) == (10, place)
+        # 11, whatever else would be wrong.
+        for kind, length in ((1, 1), (2, 1), (3, 3), (4, 3)):
+            for cut in range(length):
+                for word in (0, A, 255):
+                    assert passed(*begun, kind, *[word] * cut) == (11, place)
+        # 12
+        for damage in range(256):
+            assert passed(*begun, 1, damage) == (12, place)
+            result = passed(*begun, 2, damage)
+            assert (result == (12, place)) == (damage > 7)
+            result = passed(*begun, 2, 0, 1, damage)
+            assert (result == (12, place + 2)) == (damage > 7)
+            assert passed(*begun, 2, 0, 2, damage) == (12, place + 2)
+    # 13, of each offer behind each, and before 3.
+    offers = {1: ((3, *ONE), (5,), (7,)), 2: ((4, *ONE), (6,), (8,))}
+    for role in (1, 2):
+        for first in offers[role]:
+            for second in (*offers[role], (role + 2, 0, 0, 0), (role + 2, A, A, ALPHA)):
+                assert passed(*first, *second) == (13, len(first))
+                assert passed(2, 7, *first, 1, 7, *second) == (13, len(first) + 4)
+            for other in offers[3 - role]:
+                assert passed(*first, *other) == (b"", b"")
+    # The master takes it at the burst that it hears, and the slave does not.
+    assert passed(*text, 2, 0, *text) == passed(5, 2, 0, 5) == (b"", b"")
+    assert passed(*text, 2, 1, *text) == (13, 6)
+    assert passed(*text, 2, 6, *text) == (b"", b"")
+    assert passed(4, *ONE, *WHOLE, 4, *ONE) == (13, 8)
+    # 3, at each place.
+    for kind in (3, 4):
+        for index in range(3):
+            for word in range(256):
+                words = list(ONE)
+                words[index] = word
+                good = word in TRAFFIC or word == BETA
+                assert (passed(kind, *words) == (3, 0)) != good
+                assert (passed(*WHOLE, kind, *words, 9) == (3, 4)) != good
+    # The first in the record counts.
+    assert passed(2, 8, 9) == (12, 0) and passed(9, 2, 8) == (10, 0)
+    assert passed(3, 0, 0, 0, 1) == (3, 0) and passed(5, 5, 3, 0, 0, 0) == (13, 1)
+    # What stands at the end, and what is on the way, is not refused.
+    assert passed(*text, 6, 2, 7) == passed(8, 7) == (b"", b"")
+
+
+def passage_rooms():
+    """"after them 2, master's room first, with the room needed"."""
+    record = (3, *ONE, *WHOLE, 6, *WHOLE, *WHOLE, 2, 0, 4, *ONE, 1, 0, 2, 0, 4, A, BETA,
+              BETA, 1, 0, 2, 0)
+    assert passed(*record, rooms=(4, 3)) == (b"ONEA", b"ONE")
+    for master in range(7):
+        for slave in range(7):
+            result = passed(*record, rooms=(master, slave))
+            if master < 4:
+                assert result == (2, 4)
+            elif slave < 3:
+                assert result == (2, 3)
+            else:
+                assert result == (b"ONEA", b"ONE")
+            # A fault of the record comes before.
+            assert passed(*record, 9, rooms=(master, slave)) == (10, len(record))
+    assert passed(rooms=(0, 0)) == passed(*WHOLE, rooms=(0, 0)) == (b"", b"")
+    # Shifts, blank and beta take none.
+    assert passed(3, FIGURES, BLANK, BETA, *WHOLE, rooms=(0, 0)) == (b"", b"")
+
+
+def passage_by_blocks(record):
+    """Of a record without a fault, by demand 3: what a station prints is the text of
+    the blocks that it has accepted, of those taken from the other's offers."""
+    sides = {1: Side(mode_a.fresh_master()), 2: Side(mode_a.fresh_slave())}
+    offers = {1: NOTHING, 2: NOTHING}
+    burst = (CS1, 0, 0)
+    rest = list(record)
+    while rest:
+        kind = rest.pop(0)
+        role = 2 - kind % 2
+        if kind > 2:
+            assert offers[role] == NOTHING
+            words = tuple(rest.pop(0) for _ in range(3)) if kind < 5 else (0, 0, 0)
+            offers[role] = Offer(("text", "over", "end")[(kind - 3) // 2], words)
+            continue
+        hearer = 3 - role
+        damage = rest.pop(0)
+        for index, bit in enumerate((1, 2, 4)):
+            if damage & bit:
+                burst = (*burst[:index], 0, *burst[index + 1:])
+        taken = mode_a.step(sides[hearer].station, burst, offers[hearer]).taken
+        burst, _ = one_step(sides[hearer], sides[role], burst, offers[hearer])
+        if taken:
+            offers[hearer] = NOTHING
+    out = []
+    for hearer in (1, 2):
+        blocks = sides[3 - hearer].blocks[:sides[hearer].accepted]
+        words = [word for block in blocks for word in block if word in TRAFFIC]
+        room = bytearray(len(words))
+        out.append(bytes(room[:text.print_signals("letters", words, room).length]))
+    return tuple(out)
+
+
+def passage_is_demand_three():
+    draw = random.Random(7)
+    printed = [0, 0]
+    for run in range(150):
+        way = (inputs.sent_home, inputs.any_passage)[run % 2]
+        record = way(draw, draw.choice((30, 300)), (0, 0.02, 0.1, 0.3)[run // 2 % 4]).record
+        result = passed(*record, rooms=(2000, 2000))
+        assert result == passage_by_blocks(record)
+        printed = [one + len(more) for one, more in zip(printed, result)]
+    assert min(printed) > 1500, printed
+
+
 # --- Mode B ---
 
 def received(words):
@@ -2963,6 +3204,66 @@ def step_record(head, burst, offer, *, behind=(0,) * 6, known=(0,) * 5,
 NO_MORE = b" | 0 0 0 0 0 0 0 0 0 0 0 0 0 0 | none 0\n"
 
 
+def passage_program():
+    def told(record):
+        output, error, status = programs.run("passage", (), bytes(record))
+        assert (output, status) == (b"", 1)
+        return error
+
+    assert programs.run("passage", (), b"") == (b"master 0\n\nslave 0\n\n", b"", 0)
+    assert programs.run("passage", (), bytes((3, *ONE, *WHOLE))) == (
+        b"master 0\n\nslave 3\nONE\n", b"", 0)
+    over = bytes((5, *WHOLE, *WHOLE, 2, 0, 4, CARRIAGE_RETURN, LINE_FEED, A, 1, 0, 2, 0))
+    assert programs.passage(over) == (b"master 3\n\r\nA\nslave 2\n+?\n", None)
+    assert told([9]) == b"passage: refused 10 0: no such kind\n"
+    assert told([2, 0, 1]) == b"passage: refused 11 2: the body is cut short\n"
+    turn = b"passage: refused 12 %d: a burst out of turn, or bits 3 to 7 set\n"
+    assert told([1, 0]) == turn % 0 and told([2, 0, 2, 0]) == turn % 2
+    assert told([2, 0, 1, 8]) == turn % 2
+    assert told([8, 6]) == b"passage: refused 13 1: the last offer is not taken yet\n"
+    assert told([8, 3, A, A, RQ]) == (
+        b"passage: refused 3 1: a word that is neither traffic nor beta\n")
+    # The limit, whatever else is wrong.
+    most = 262144
+    too_long = b"passage: too long: over 262144 bytes\n"
+    assert told(most) == b"passage: refused 10 0: no such kind\n"
+    assert told(most + 1) == told(bytes((3, *ONE, *WHOLE)) * (most // 8) + b"\7") == too_long
+    # 7 is none of its refusals.
+    output, error = programs.passage(bytes((3, *ONE, *WHOLE)) * 3000)
+    assert output == b"master 0\n\nslave 9000\n" + b"ONE" * 3000 + b"\n" and error is None
+
+
+def passage_records():
+    """Of `V`."""
+    def record(master, slave, *body):
+        return (b"V" + master.to_bytes(2, "little") + slave.to_bytes(2, "little")
+                + len(body).to_bytes(2, "little") + bytes(body))
+
+    one = (3, *ONE, *WHOLE)
+    good = (record(0, 0) + record(1, 4, *one) + record(0, 3, *one) + record(0, 2, *one)
+            + record(2, 1, *one, 9) + record(300, 0, 5)
+            + record(1, 2, 5, *WHOLE, *WHOLE, 2, 0, 4, A, A, BETA, 1, 0, 2, 0))
+    lines = (b"ok 0 0 - -\nok 0 3 AA 4F4E45AA\nok 0 3 - 4F4E45\nrefused 2 3 - AAAA\n"
+             b"refused 10 8 AAAA AA\nok 0 0 " + b"AA" * 300 + b" -\nrefused 2 2 AA AAAA\n")
+    assert programs.calls(good) == (lines, None)
+
+    def ends(tail, reason):
+        told = "bad record at %d: %s" % (len(good), reason)
+        assert programs.calls(good + tail) == (lines, told)
+
+    whole = record(5, 6, *one)
+    for length in range(1, len(whole)):
+        ends(whole[:length], "cut short")
+    for rooms in ((8193, 0), (0, 8193), (8193, 65535)):
+        for tail in (b"\0\0", b"\1\0", b"\2\x20", b"\xff\xff", b"\1\0" + good):
+            ends(record(*rooms)[:5] + tail, "a room over 8192")
+        ends(record(*rooms)[:6], "cut short")
+    for tail in (b"\2\x20", b"\2\x20" + bytes(9000)):
+        ends(record(8192, 8192)[:5] + tail, "a length over 8193")
+    assert programs.calls(record(8192, 8192, *[5] * 8193)) == (
+        b"refused 13 1 %s %s\n" % (b"AA" * 8192, b"AA" * 8192), None)
+
+
 def steps_records():
     head = [1, 4, 1, 9, 9, 9, 9, 31, 0, 0]
     nobody = b" | slave 0 0 0 0 0 0 nobody 0 0 0 0" + NO_MORE
@@ -3403,7 +3704,7 @@ def load_compare():
 
 
 compare = load_compare()
-COMPARED = ["encode", "print", "send", "receive", "hear", "steps", "calls"]
+COMPARED = ["encode", "print", "send", "receive", "hear", "passage", "steps", "calls"]
 
 
 def compare_names_all_programs():
@@ -3557,13 +3858,18 @@ def inputs_tell_each_line():
         "receive": ["over 255", "a byte that is no digit"],
         "calls": ["no such kind", "cut short", "a room over 8192",
                   "a length over 8193"],
+        "passage": ["no such kind", "the body is cut short", "over 262144 bytes",
+                    "a burst out of turn, or bits 3 to 7 set",
+                    "the last offer is not taken yet",
+                    "a word that is neither traffic nor beta"],
         "hear": [], "steps": [],
     }
     for name, wanted in reasons.items():
         found = {}
         for case in gate_cases(name):
-            if (name in ("hear", "steps") or len(case.data) > 30000) and not case.words:
-                # Long ones tell nothing that short ones do not.
+            long = 30000 < len(case.data) <= programs.MOST_RECORD
+            if (name in ("hear", "steps") or long) and not case.words:
+                # Long ones tell nothing that short ones do not, but that they are long.
                 continue
             error = programs.run(name, case.words, case.data).error.decode()
             told = error.strip().split(": ")[-1]
@@ -3909,6 +4215,172 @@ def inputs_of_answers():
         assert answers[length, True] >= 30 and answers[length, False] >= 30, length
 
 
+def keys_of_passage(record):
+    """What a record tries, as the inputs are to hold it: what each burst is heard at,
+    and the entry that is refused, with what else would be."""
+    run = passages.Run()
+    place = 0
+    keys = []
+    while place < len(record):
+        number = passages.refusal_of(run, record, place)
+        kind = record[place]
+        left = len(record) - place - 1
+        whose = (passages.SLAVE, passages.MASTER)[kind % 2]
+        side = run.sides[whose]
+        stands = None if side.offer is None else side.offer.kind
+        words = record[place + 1:place + 4]
+        bad = [index for index, word in enumerate(words)
+               if word not in TRAFFIC and word != BETA]
+        if number == 10:
+            keys.append((10, kind, place == 0, left == 0))
+        elif number == 11:
+            keys.append((11, kind, left, run.sender == whose if kind < 3 else
+                         (stands is not None, bad != [])))
+        elif number == 12:
+            keys.append((12, kind, words[0], run.sender == whose))
+        elif number == 13:
+            keys += [(13, kind, stands), (13, kind, side.station.place)]
+            keys += [(13, kind, "3")] * (kind < 5 and bad != [])
+        elif number == 3:
+            keys += [(3, kind, len(bad)), (3, bad[0], words[bad[0]])]
+        if number is not None:
+            return keys
+        if kind < 3:
+            hearer = run.sides[passages.OTHER[whose]]
+            before = hearer.station
+            offered = None if hearer.offer is None else hearer.offer.kind
+            keys.append(("heard", before.master, before.place, words[0]))
+        place = passages.go(run, record, place)
+        if kind < 3:
+            after = hearer.station
+            if after.place == LOST != before.place:
+                keys += [("lost", before.master, before.place), ("lost with", offered)]
+            if offered is not None:
+                kept = hearer.offer is not None
+                keys.append(("pressed", before.place, offered, kept))
+                keys += [("waits for an answer", offered)] * (
+                    kept and before.owed is not None and after.owed != before.owed)
+            keys += [("turned", before.master)] * (
+                before.place == TURNING and after.place == RECEIVING)
+            keys += [("count 31 and on", before.place)] * (
+                before.count == 31 and after.place != LOST)
+    keys.append("clean")
+    keys += [("prints", whose, side.case) for whose, side in run.sides.items()
+             if side.printed]
+    return keys
+
+
+def inputs_of_passages():
+    """02, T-07: what the records of `V` hold, and the inputs of `passage`."""
+    found = {}
+
+    def has(least, *key):
+        assert found.get(key, 0) >= least, (key, found.get(key, 0))
+
+    def count(keys):
+        for key in keys:
+            found[key] = found.get(key, 0) + 1
+
+    for data in gate_inputs("calls"):
+        for first, behind in inputs.call_records(data):
+            if data[first:first + 1] != b"V":
+                continue
+            record = data[first + 7:behind]
+            keys = keys_of_passage(record)
+            count(keys)
+            lent = [int.from_bytes(data[at:at + 2], "little")
+                    for at in (first + 1, first + 3)]
+            rooms = [bytearray(8192), bytearray(8192)]
+            result = passages.passage(record, *rooms)
+            if isinstance(result, Refused):
+                count([("refused", result.number, lent[0] == 0, lent[1] == 0)])
+                continue
+            assert "clean" in keys
+            # -1 is one too short, 1 is longer than needed; and whether any is needed.
+            spare = [max(min(room - needed, 1), -1) for room, needed in zip(lent, result)]
+            one_short = [room == needed - 1 for room, needed in zip(lent, result)]
+            count([("rooms", *spare), ("one short", *one_short),
+                   ("needed", result.master > 0, result.slave > 0),
+                   ("unlike", result.master != result.slave, *spare)])
+    for kind in (0, *range(9, 256)):
+        for first in (False, True):
+            has(1, 10, kind, first, True)
+        has(2, 10, kind, False, False)
+    for kind in (1, 2):
+        for in_turn in (False, True):
+            has(5, 11, kind, 0, in_turn)
+            for damage in range(8, 256):
+                has(1, 12, 2, damage, True)
+                has(1, 12, 1, damage, False)
+        for damage in range(8):
+            has(1, 12, kind, damage, False)
+    for kind in (3, 4):
+        for left in range(3):
+            for stands in (False, True):
+                has(2, 11, kind, left, (stands, False))
+                if left > 0:
+                    has(2, 11, kind, left, (stands, True))
+        has(50, 13, kind, "3")
+        for bad in (1, 2):
+            has(30, 3, kind, bad)
+    for word in range(256):
+        if word not in TRAFFIC and word != BETA:
+            for index in range(3):
+                has(1, 3, index, word)
+    for kind in range(3, 9):
+        for stands in ("text", "over", "end"):
+            has(5, 13, kind, stands)
+        for place in (LOST, STANDBY):
+            has(5, 13, kind, place)
+    for master in (False, True):
+        for damage in range(8):
+            for place in (SENDING, OPENING, ENDING, RECEIVING, ASKING, TURNING, STANDBY):
+                has(1, "heard", master, place, damage)
+        for place in (SENDING, OPENING, RECEIVING, ASKING, TURNING):
+            has(3, "lost", master, place)
+        has(200, "turned", master)
+    for place in (SENDING, OPENING, RECEIVING, ASKING):
+        has(2, "count 31 and on", place)
+    for offer in ("text", "over", "end", None):
+        has(2, "lost with", offer)
+    for offer in ("text", "over", "end"):
+        for place in (SENDING, OPENING):
+            has(5, "pressed", place, offer, False)
+            has(5, "pressed", place, offer, True)
+        for place in (RECEIVING, ASKING, TURNING, STANDBY, LOST):
+            has(5, "pressed", place, offer, True)
+        has(2, "waits for an answer", offer)
+    has(20, "pressed", RECEIVING, "over", False)
+    for one in (-1, 0, 1):
+        for two in (-1, 0, 1):
+            has(5, "rooms", one, two)
+            has(5, "unlike", True, one, two)
+    for one in (False, True):
+        for two in (False, True):
+            has(10, "needed", one, two)
+            has(10, "one short", one, two)
+            for number in (10, 11, 12, 13, 3):
+                has(10, "refused", number, one, two)
+    for whose in ("master", "slave"):
+        for case in ("letters", "figures"):
+            has(50, "prints", whose, case)
+    # Of `passage`: lengths around the limit, much printed by either station, and
+    # records that are refused behind thousands of entries.
+    sizes = {}
+    printed = []
+    for data in gate_inputs("passage"):
+        sizes.setdefault(len(data), set()).add(data[:1])
+        if 20000 < len(data) <= programs.MOST_RECORD:
+            rooms = [bytearray(len(data)), bytearray(len(data))]
+            printed.append(passages.passage(data, *rooms))
+    for size in (262144, 262145):
+        assert sizes[size] == {b"\0", b"\1", b"\2", b"\3"}
+    assert 262143 in sizes and 262244 in sizes
+    assert (0, 98304) in printed and (11, 262143) in printed
+    assert any(one.slave == 0 and one.master > 65536 for one in printed
+               if not isinstance(one, Refused))
+
+
 RECEIVE_RUNS = []
 
 
@@ -4248,7 +4720,7 @@ def faults_of_groups_are_told():
 def faults_of_all_programs():
     tellers = {teller for one in faults.FAULTS for teller in one.tellers}
     assert tellers == set(COMPARED) | {"calls " + chr(kind) for kind in inputs.KINDS}
-    assert len({one.about for one in faults.FAULTS}) == len(faults.FAULTS) >= 800
+    assert len({one.about for one in faults.FAULTS}) == len(faults.FAULTS) >= 1050
     # The modules of the second program are as they were.
     assert faults.programs_with(None) is not programs.run
     assert sys.modules["programs"] is programs
@@ -4278,13 +4750,16 @@ TESTS = [
     what_is_owed_stays_or_goes, codes_and_refusal_nine, refusals_of_what_is_owed,
     whole_answers,
     demand_three, demand_three_from_a_call,
+    passage_examples, passage_turns, passage_questions, passage_time_outs,
+    passage_refusals, passage_rooms, passage_is_demand_three,
     sender_examples, sender_corners, search_is_last_four, lock_either_way,
     lock_at_a_break, end_of_reception, three_words_more, three_words_are_swallowed,
     sender_stops_within_the_wait, waits_refused, reception_by_the_list, settling,
     perfect_copy, perfect_copy_of_01, copies_are_needed, last_letter_of_a_bulletin,
     hear_example, words_in_and_out, whole_runs, script_gives_whole_runs,
-    letter_through_all, steps_records, steps_records_of_calls,
-    steps_records_of_identification, steps_records_of_answers,
+    letter_through_all, passage_program, passage_records,
+    steps_records, steps_records_of_calls, steps_records_of_identification,
+    steps_records_of_answers,
     calls_records, meaning_records, identity_records, both_identity_records,
     code_records,
     receive_records, receive_records_that_wait, receive_records_run_on,
@@ -4293,7 +4768,7 @@ TESTS = [
     compare_tells_who_does_not_answer,
     inputs_are_bytes, inputs_at_borders, inputs_tell_each_line,
     inputs_of_steps, inputs_of_calls, inputs_of_identification, inputs_of_answers,
-    inputs_of_receive, inputs_of_waits,
+    inputs_of_passages, inputs_of_receive, inputs_of_waits,
     inputs_of_waiting_records, inputs_of_small_letters, inputs_of_groups,
     conversations_are_answered,
     faults_not_told_are_found, faults_of_groups_are_told, faults_of_all_programs,

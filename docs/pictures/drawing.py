@@ -80,3 +80,20 @@ class Picture:
         return ('<svg xmlns="http://www.w3.org/2000/svg" width="170mm" height="%gmm" viewBox="0 0 %d %d" '
                 'font-family="Helvetica, Arial, \'DejaVu Sans\', sans-serif">\n%s\n</svg>\n'
                 % (self.height / 4, WIDTH, self.height, "\n".join(self.parts)))
+
+
+def headed(height, title, about):
+    """A picture with a title, and lines below it."""
+    picture = Picture(height, title, " ".join(about))
+    picture.text(2, 18, title, 15, bold=True)
+    for number, line in enumerate(about):
+        picture.text(2, 35 + 14 * number, line, fill=GREY, room=WIDTH)
+    return picture
+
+
+def lines(picture, x, middle, some, room, anchor="start", size=10.5, **style):
+    """Some lines about a height."""
+    y = middle + 4 - 6.5 * (len(some) - 1)
+    for line in some:
+        picture.text(x, y, line, size, anchor, room=room, **style)
+        y += 13

@@ -1,8 +1,9 @@
-"""The proved programs, driven: the table of actions (`rows`), single steps and runs of two stations (`steps`), texts (`encode`), and
-mode B (`send`, `receive`)."""
+"""The proved programs, driven: the table of actions (`rows`), single steps and runs of two stations (`steps`), records (`passage`), texts
+(`encode`, `print`), and mode B (`send`, `receive`)."""
 import functools
 import os
 import random
+import re
 import subprocess
 from collections import namedtuple
 
@@ -77,16 +78,25 @@ LETTERS, FIGURES, WHO = 90, 54, 83      # the shifts, and who are you: D in figu
 CODE = (LETTERS, 75, 86, 71)            # an answer-back code: letters S E A
 
 
-PROGRAMS = ("rows", "steps", "encode", "send", "receive")
+PROGRAMS = ("rows", "steps", "passage", "encode", "print", "send", "receive")
 
 
 class NotRun(Exception):
     """A program could not be built, or did not do what it was run for."""
 
 
-def build():
-    """Each program proved and built, where it is not already."""
-    for name in PROGRAMS:
+class Refused(Exception):
+    """What `passage` tells of a record that it does not run, and the place of the entry that it names, or None."""
+
+    def __init__(self, told):
+        super().__init__(told)
+        place = re.match(r"passage: refused \d+ (\d+):", told)
+        self.place = int(place.group(1)) if place else None
+
+
+def build(*names):
+    """Each of these programs proved and built, where it is not already."""
+    for name in names:
         started(subprocess.run, "./telex", name, stdin=subprocess.DEVNULL, stdout=subprocess.DEVNULL)
 
 
@@ -103,6 +113,24 @@ def started(how, *command, **streams):
 def run(name, data):
     """What a program that is built writes."""
     return started(subprocess.run, "./telex", "--built", name, input=data, stdout=subprocess.PIPE).stdout.decode("ascii")
+
+
+def passage(record):
+    """What `passage` writes of a record: what the master printed, and the slave."""
+    try:
+        done = subprocess.run(("./telex", "--built", "passage"), cwd=ROOT, input=record, stdout=subprocess.PIPE, stderr=subprocess.PIPE)
+    except OSError as fault:
+        raise NotRun("./telex --built passage: %s" % fault.strerror)
+    if done.returncode == 1:
+        raise Refused(done.stderr.decode("utf-8", "replace").strip())
+    printed, rest = [], done.stdout
+    for role in ROLES:
+        head = re.match(rb"%s (\d+)\n" % role.encode("ascii"), rest)
+        if done.returncode or not head:
+            raise NotRun("./telex --built passage ended with status %d, and did not write what each station printed" % done.returncode)
+        printed.append(rest[head.end():head.end() + int(head.group(1))])
+        rest = rest[head.end() + int(head.group(1)) + 1:]
+    return printed
 
 
 def table():

@@ -1,4 +1,5 @@
 // One public call a record, so that rooms, cases, lengths and receivers can be tried that no filter reaches (docs/FORMATS.md).
+use entries::Passed;
 use filters::Stream;
 use identity::Seven;
 use mode_a::Code;
@@ -74,12 +75,18 @@ fn put_hex(first: Stream, output: &mut [u8], bytes: &[u8]) -> Stream {
     stream
 }
 
-// The whole of the lent room, or - where it has no length, and the line's end.
+// The whole of a lent room, or - where it has no length.
 fn put_room(stream: Stream, output: &mut [u8], room: &[u8]) -> Stream {
     if room.len() == 0 {
-        return stream.put_all(output, b" -\n");
+        return stream.put_all(output, b" -");
     }
-    put_hex(stream.put_all(output, b" "), output, room).put_all(output, b"\n")
+    put_hex(stream.put_all(output, b" "), output, room)
+}
+
+// The two rooms of a passage, and the line's end.
+fn put_rooms(stream: Stream, output: &mut [u8], master: &[u8], slave: &[u8]) -> Stream {
+    let after = put_room(stream, output, master);
+    put_room(after, output, slave).put_all(output, b"\n")
 }
 
 fn put_ok(line: &mut [u8], written: usize, ends: Case) -> usize {
@@ -103,6 +110,23 @@ fn put_printed(line: &mut [u8], answer: Printed) -> usize {
         Printed::TooLong => filters::put_refusal(line, 0, 7, 8192),
         Printed::BadWord(index) => filters::put_refusal(line, 0, 3, index as u64),
         Printed::NoRoom(needed) => filters::put_refusal(line, 0, 2, needed as u64),
+    }
+}
+
+fn put_passed(line: &mut [u8], answer: Passed) -> usize {
+    match answer {
+        Passed::Printed { master, slave } => {
+            let mut at = numbers::put_all(line, 0, b"ok ");
+            at = filters::put_decimal(line, at, master as u64);
+            at = numbers::put(line, at, 32);
+            filters::put_decimal(line, at, slave as u64)
+        }
+        Passed::UnknownKind(place) => filters::put_refusal(line, 0, 10, place as u64),
+        Passed::CutShort(place) => filters::put_refusal(line, 0, 11, place as u64),
+        Passed::BadBurst(place) => filters::put_refusal(line, 0, 12, place as u64),
+        Passed::StillOffered(place) => filters::put_refusal(line, 0, 13, place as u64),
+        Passed::BadWord(place) => filters::put_refusal(line, 0, 3, place as u64),
+        Passed::NoRoom(needed) => filters::put_refusal(line, 0, 2, needed as u64),
     }
 }
 
@@ -140,7 +164,25 @@ fn call(
 ) -> Stream {
     let mut line = [0u8; 32];
     let at = put_call(&mut line, kind, case, list, room);
-    put_room(stream.put_line(output, &line, at), output, room)
+    put_room(stream.put_line(output, &line, at), output, room).put_all(output, b"\n")
+}
+
+// The call of a record of kind V.
+fn put_passage(line: &mut [u8], list: &[u8], master: &mut [u8], slave: &mut [u8]) -> usize {
+    put_passed(line, passing::passage(list, master, slave))
+}
+
+// A call of kind V.
+fn pass(
+    stream: Stream,
+    output: &mut [u8],
+    list: &[u8],
+    master: &mut [u8],
+    slave: &mut [u8],
+) -> Stream {
+    let mut line = [0u8; 48];
+    let at = put_passage(&mut line, list, master, slave);
+    put_rooms(stream.put_line(output, &line, at), output, master, slave)
 }
 
 // A call of kind S.
@@ -343,7 +385,7 @@ fn head_length(kind: u8) -> usize
 {
     match kind {
         b'E' | b'P' => 5,
-        b'S' => 6,
+        b'S' | b'V' => 6,
         b'M' => 1,
         b'R' => 10,
         b'I' => 4,
@@ -353,10 +395,19 @@ fn head_length(kind: u8) -> usize
     }
 }
 
-// The room that a record asks for.
+// The room that a record asks for, of kind V the master's.
 fn size_in(kind: u8, head: &[u8; 21]) -> usize {
     match kind {
         b'E' | b'P' => two_bytes(head[1], head[2]),
+        b'V' => two_bytes(head[0], head[1]),
+        _ => 0,
+    }
+}
+
+// The slave's room, of kind V.
+fn slave_size_in(kind: u8, head: &[u8; 21]) -> usize {
+    match kind {
+        b'V' => two_bytes(head[2], head[3]),
         _ => 0,
     }
 }
@@ -367,7 +418,7 @@ fn length_in(kind: u8, head: &[u8; 21]) -> usize
 {
     match kind {
         b'E' | b'P' => two_bytes(head[3], head[4]),
-        b'S' => two_bytes(head[4], head[5]),
+        b'S' | b'V' => two_bytes(head[4], head[5]),
         _ => 0,
     }
 }
@@ -384,6 +435,19 @@ fn answer(stream: Stream, output: &mut [u8], kind: u8, head: &[u8; 21], list: &[
                 fields::case_of(head[0]),
                 list,
                 &mut room[..filled],
+            )
+        }
+        b'V' => {
+            let mut master = [0u8; 8192];
+            let master_size = fill(&mut master, size_in(kind, head));
+            let mut slave = [0u8; 8192];
+            let slave_size = fill(&mut slave, slave_size_in(kind, head));
+            pass(
+                stream,
+                output,
+                list,
+                &mut master[..master_size],
+                &mut slave[..slave_size],
             )
         }
         _ => {
@@ -404,6 +468,9 @@ fn bytes_in(kind: u8, head: &[u8; 21]) -> usize {
 fn listed(stream: Stream, input: &mut [u8], output: &mut [u8], kind: u8, head: &[u8; 21]) -> Came {
     let length = length_in(kind, head);
     if 8192 < size_in(kind, head) {
+        return none(stream, End::Room);
+    }
+    if 8192 < slave_size_in(kind, head) {
         return none(stream, End::Room);
     }
     if 8193 < length {

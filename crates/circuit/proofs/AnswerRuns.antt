@@ -19,7 +19,7 @@ use Rattle.mode_a.specs.Over.{query, cross, who, listened}
 use Rattle.mode_a.specs.Answerback.{codeSignals, holdsNeither, passes, βββ, figures+?, answerKeeping, answerOf, blockOwed, owedThen, owedExists}
 use Rattle.mode_a.specs.Step.{trafficIn, done, sound, stepping}
 use Rattle.runs.specs.Runs.{start}
-use Rattle.circuit.specs.Circuit.{Event, traffic, signalsIn, Direction, Circuit, freshWith, after}
+use Rattle.runs.specs.Circuit.{Event, traffic, signalsIn, Direction, Circuit, freshWith, after}
 use Rattle.circuit.specs.Starts.{both-fresh, CodesPass}
 use Rattle.circuit.specs.Demand.{Demand3}
 use Rattle.circuit.proofs.Computed.{run-of, through, computed}

@@ -34,7 +34,7 @@ use Rattle.mode_a.specs.Over.{query, cross, listened}
 use Rattle.mode_a.specs.Answerback.{codeSignals, holdsNeither, passes, owedExists}
 use Rattle.mode_a.specs.Step.{unidentified, trafficIn, done, sound, stepping}
 use Rattle.runs.specs.Runs.{start}
-use Rattle.circuit.specs.Circuit.{Event, traffic, signalsIn, nothingYet, Circuit, next, after}
+use Rattle.runs.specs.Circuit.{Event, traffic, signalsIn, nothingYet, Circuit, next, after}
 use Rattle.circuit.specs.Starts.{CallPlaced, with-block, Call3Placed, CallCompleted, CallTurned, placed3, CodesPass}
 use Rattle.circuit.specs.Demand.{Demand3}
 use Rattle.circuit.proofs.Computed.{run-of, through, computed}

@@ -49,7 +49,7 @@ use Rattle.runs.specs.Taken.{blockOf, takenIf}
 use Rattle.runs.proofs.RowLaws.{by-sending, by-turning, by-opening, by-ending, by-receiving, by-asking, by-standing, by-calling3, by-identifying, by-answering}
 use Rattle.runs.proofs.PlaceLaws.{is-standby}
 use Rattle.runs.proofs.StepLaws.{Answers as Answered, answers, oneMore, by-repeat, by-take, by-accept, by-listen, by-again, by-meet, standby-answers, standby-answers3, standby-listens, lost-stays}
-use Rattle.circuit.specs.Circuit.{Event, heard, Harmless, Run, nothingYet, Circuit, said, placesCall, confirmedBy, acceptedBy, answeredBy, goesOn, next, after, AllHarmless, NoCallPlaced}
+use Rattle.runs.specs.Circuit.{Event, heard, Harmless, Run, nothingYet, Circuit, said, placesCall, confirmedBy, acceptedBy, answeredBy, goesOn, next, after, AllHarmless, NoCallPlaced}
 use Rattle.circuit.specs.Starts.{CallPlaced, Begins, with-block, with-end, CallCompleted, PlacingLeaves, LeavesCompleted}
 use Rattle.circuit.proofs.DamageLaws.{Mangled, mangled, no-block, no-words, FirstIs, said as as-said, unsaid, first-heard}
 use Rattle.circuit.proofs.Link.{saysOn}

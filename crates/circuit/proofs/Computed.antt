@@ -26,7 +26,7 @@ use Rattle.mode_a.specs.declared.Place.the-variants.{Sending, Turning, Opening,
 use Rattle.mode_a.specs.declared.Station.{Station}
 use Rattle.mode_a.specs.Station.{words}
 use Rattle.runs.specs.Runs.{_▷_}
-use Rattle.circuit.specs.Circuit.{Event, Run, Direction, Circuit, next, after}
+use Rattle.runs.specs.Circuit.{Event, Run, Direction, Circuit, next, after}
 
 -- a value worked out, and handed on
 abbrev number : ℕ → (ℕ → Circuit) → Circuit

@@ -28,7 +28,7 @@ use Rattle.mode_a.specs.Heard.{First, Else, Cs4, Cs5, Letter, Other, firstOf, m
 use Rattle.mode_a.proofs.HeardLaws.{first-else, further-other}
 use Rattle.runs.proofs.LetterLaws.{Letters, letters-of}
 use Rattle.signals.specs.Damage.{Damage, kept, hurt, arrives, NoSignal}
-use Rattle.circuit.specs.Circuit.{Event, heard, Harmless}
+use Rattle.runs.specs.Circuit.{Event, heard, Harmless}
 
 pub all-three : (a b c : Bool) → a && (b && c) ≡ true → (a ≡ true) × (b ≡ true) × (c ≡ true)
 all-three a b c e =

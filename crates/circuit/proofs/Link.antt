@@ -65,7 +65,7 @@ use Rattle.mode_a.specs.Rows.{requests, isLast}
 use Rattle.laws.specs.Choice.{if_then_else_}
 use Rattle.runs.specs.Places.{isSending}
 use Rattle.runs.proofs.LetterLaws.{Lettered}
-use Rattle.circuit.specs.Circuit.{traffic, signalsIn, Direction, Circuit, printedBy}
+use Rattle.runs.specs.Circuit.{traffic, signalsIn, Direction, Circuit, printedBy}
 
 -- what is owed in a direction: nothing, or the confirmation of a block that the other has not accepted, or has. (What a station owes of an
 -- answer-back, the `Owed` of mode A, is another thing, and no part of a phase: where it owes a block, it takes that for the offer's.)

@@ -30,7 +30,7 @@ use Rattle.runs.specs.Places.{Inner, with-block, with-total, with-waiting, with
 use Rattle.runs.specs.Runs.{isAnswered}
 use Rattle.runs.proofs.PlaceLaws.{places-apart}
 use Rattle.runs.proofs.StepLaws.{Answers, answers, by-repeat, lost-stays}
-use Rattle.circuit.specs.Circuit.{Event, heard, Harmless, Whole, Circuit, said, confirmedAt, confirmedOf, confirmedBy, acceptedBy, answeredBy, goesOn, next, placesCall}
+use Rattle.runs.specs.Circuit.{Event, heard, Harmless, Whole, Circuit, said, confirmedAt, confirmedOf, confirmedBy, acceptedBy, answeredBy, goesOn, next, placesCall}
 use Rattle.circuit.specs.Demand.{Beginning, Exchanged, Confirms, TimedOutFirst, InTime, AwaitsAtRq}
 use Rattle.circuit.proofs.Link.{Owed, unheard, heard as accepted, held, Link, s1-block, s1-rqs, s1-own, s1-rqs′, s1-other, s2-rqs, s2-cs3, s3-any, s3-cs3, s4-rq, s4-rqs, s5-asks, s5-rq, e1-alphas, e1-any, e2-any, e2-any′, e3-silence, e3-any, e4-any, calls, Told, At, here, gone, Says, aloud, no-more, Linked}
 use Rattle.circuit.proofs.ReplyLaws.{asks-first, silence-first}

@@ -49,7 +49,7 @@ use Rattle.signals.specs.Damage.{kept, hurt}
 use Rattle.runs.specs.Places.{isOpening, isAsking}
 use Rattle.runs.specs.Runs.{start, _▷_, isAnswered, isTaken}
 use Rattle.runs.proofs.StepLaws.{answers}
-use Rattle.circuit.specs.Circuit.{Event, heard, Whole, Run, Direction, nothingYet, Circuit, freshWith, fresh, said, confirmedBy, answeredBy, goesOn, next, after, AllHarmless, NoCallPlaced}
+use Rattle.runs.specs.Circuit.{Event, heard, Whole, Run, Direction, nothingYet, Circuit, freshWith, fresh, said, confirmedBy, answeredBy, goesOn, next, after, AllHarmless, NoCallPlaced}
 use Rattle.circuit.specs.Starts.{both-fresh, Call3Placed}
 use Rattle.circuit.specs.Demand.{Carried, Kept, Exchanged, Confirms, TimedOutFirst, InTime, Demand3}
 use Rattle.circuit.proofs.TimeLaws.{in-time}

@@ -53,7 +53,7 @@ use Rattle.runs.proofs.LetterLaws.{letters-of}
 use Rattle.runs.proofs.CodeLaws.{isOwed, owed-block}
 use Rattle.runs.proofs.RowLaws.{by-standing}
 use Rattle.runs.proofs.StepLaws.{placed, oneMore, by-repeat, by-owed, by-again, by-accept, by-listen}
-use Rattle.circuit.specs.Circuit.{traffic, confirmedOf, withoutZeros}
+use Rattle.runs.specs.Circuit.{traffic, confirmedOf, withoutZeros}
 use Rattle.circuit.proofs.DamageLaws.{all-three, Mangled, Signals, FirstIs, first-heard, four-letters, whole-call, whole-call3}
 use Rattle.circuit.proofs.Link.{Owed, none, unheard, heard, held, noCall, Link, s1-block, s1-other, s2-cs3, e1-alphas, aloud, no-more, Moved, stays, takes-block, confirms, confirms-and-takes, nothing-new, came, After}
 

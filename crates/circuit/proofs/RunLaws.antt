@@ -36,7 +36,7 @@ use Rattle.runs.specs.Runs.{start, _▷_, isCall, taking, isTaken}
 use Rattle.runs.proofs.PlaceLaws.{places-apart, is-standby}
 use Rattle.runs.proofs.LetterLaws.{letteredAt, Lettered, lettered-step}
 use Rattle.runs.proofs.StepLaws.{Answers, answers, by-listen, standby-answers, standby-answers3, standby-listens}
-use Rattle.circuit.specs.Circuit.{Event, heard, Harmless, Run, traffic, signalsIn, Direction, nothingYet, Circuit, freshWith, said, placesCall, NoCallPlaced, confirmedBy, acceptedBy, answeredBy, goesOn, next, after, AllHarmless}
+use Rattle.runs.specs.Circuit.{Event, heard, Harmless, Run, traffic, signalsIn, Direction, nothingYet, Circuit, freshWith, said, placesCall, NoCallPlaced, confirmedBy, acceptedBy, answeredBy, goesOn, next, after, AllHarmless}
 use Rattle.circuit.specs.Starts.{CallPlaced, CallCompleted, Begins, with-block, with-end, Call3Placed, CallTurned, Starts, both-fresh, placed, completed, placed3, turned}
 use Rattle.circuit.specs.Demand.{Carried, inHand, Kept}
 use Rattle.circuit.proofs.DamageLaws.{Mangled, mangled, mangled-silence, FirstIs, first-heard}

@@ -22,7 +22,7 @@ use Rattle.mode_a.specs.Answerback.{codeSignals, holdsNeither, passes, owedExis
 use Rattle.mode_a.specs.Step.{trafficIn, done, sound, stepping}
 use Rattle.signals.specs.Damage.{Damage, kept, hurt, NoSignal}
 use Rattle.runs.specs.Runs.{start, _▷_, isCall}
-use Rattle.circuit.specs.Circuit.{Event, Harmless, Run, traffic, signalsIn, Direction, Circuit, fresh, after, AllHarmless, NoCallPlaced}
+use Rattle.runs.specs.Circuit.{Event, Harmless, Run, traffic, signalsIn, Direction, Circuit, fresh, after, AllHarmless, NoCallPlaced}
 use Rattle.circuit.specs.Starts.{both-fresh, CodesPass}
 use Rattle.circuit.specs.Demand.{Demand3}
 use Rattle.circuit.proofs.DamageLaws.{all-three}

@@ -29,7 +29,7 @@ use Rattle.runs.specs.Runs.{start, _▷_, isAnswered, InOrder}
 use Rattle.runs.proofs.RowLaws.{by-sending, by-turning, by-opening, by-ending, by-receiving, by-asking, by-standing, by-calling, by-calling3, by-identifying, by-answering}
 use Rattle.runs.proofs.OwedLaws.{exists-kept}
 use Rattle.runs.proofs.StepLaws.{answers, is-answered, own-stays, held-block, by-repeat, by-take-block, by-accept, by-listen, by-again, by-meet}
-use Rattle.circuit.specs.Circuit.{Event, heard, Run, Circuit, said, goesOn, next, after}
+use Rattle.runs.specs.Circuit.{Event, heard, Run, Circuit, said, goesOn, next, after}
 use Rattle.circuit.specs.Starts.{Begins, with-block, with-end, Starts, both-fresh, placed, completed, placed3, turned, CodesPass}
 use Rattle.circuit.proofs.ReplyLaws.{Fine}
 

@@ -30,7 +30,7 @@ use Rattle.runs.specs.Places.{isStandBy}
 use Rattle.runs.specs.Runs.{taking}
 use Rattle.runs.proofs.LetterLaws.{letteredAt, Lettered}
 use Rattle.runs.proofs.StepLaws.{placed, requests-no-ααα, block-no-ααα}
-use Rattle.circuit.specs.Circuit.{confirmedBy, acceptedBy}
+use Rattle.runs.specs.Circuit.{confirmedBy, acceptedBy}
 use Rattle.circuit.proofs.DamageLaws.{Mangled, whole-block, no-block, no-words, FirstIs, said, unsaid}
 use Rattle.circuit.proofs.Link.{Owed, none, unheard, heard, held, Link, s1-block, s1-rqs, s1-own, s1-rqs′, s1-other, s2-rqs, s2-cs3, s3-any, s3-cs3, s4-rq, s4-rqs, s5-asks, s5-rq, e1-alphas, e1-any, e2-any, e2-any′, e3-silence, e3-any, e4-any, calls, At, here, gone, aloud, no-more, stays, confirms, nothing-new, After}
 use Rattle.circuit.proofs.ReplyLaws.{ααα-signals, βαβ-signals, RQ×3-signals, asks-first, goes, again, owed-nothing, confirmed-now, toTake, Fine, taken, accepted, silence-no-call, alphas-no-call, asks-no-call, first-of, Row, Quiet, not-accepted, ended, not-called}

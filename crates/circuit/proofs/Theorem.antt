@@ -1,5 +1,5 @@
 -- Demand 3, of every run of a fresh master and a fresh slave, and of every run after a call, of stations whose codes pass. Assumes nothing.
-use Rattle.circuit.specs.Circuit.{Circuit, after}
+use Rattle.runs.specs.Circuit.{Circuit, after}
 use Rattle.circuit.specs.Demand.{Demand3, OfEveryRun}
 use Rattle.circuit.proofs.Link.{Linked}
 use Rattle.circuit.proofs.RunLaws.{linked, carried, hearer-keeps, sender-keeps, never-both, no-cs3-heard}

@@ -14,7 +14,7 @@ use Rattle.mode_a.specs.Station.{RQ×3}
 use Rattle.mode_a.specs.Heard.{Cs3, firstOf}
 use Rattle.runs.specs.Places.{atSending}
 use Rattle.runs.specs.Runs.{isAnswered, InOrder}
-use Rattle.circuit.specs.Circuit.{Event, heard, Harmless, Whole, Run, signalsIn, Direction, Circuit, said, next, after, AllHarmless, NoCallPlaced}
+use Rattle.runs.specs.Circuit.{Event, heard, Harmless, Whole, Run, signalsIn, Direction, Circuit, said, next, after, AllHarmless, NoCallPlaced}
 use Rattle.circuit.specs.Starts.{Starts, CodesPass}
 
 -- one list is a beginning of another

@@ -31,7 +31,7 @@ use Rattle.mode_a.specs.Heard.{isBlock}
 use Rattle.mode_a.specs.Answerback.{passes}
 use Rattle.mode_a.specs.Step.{sound, called, called3}
 use Rattle.runs.specs.Places.{isSending, isEnding, isStandBy, isCalling}
-use Rattle.circuit.specs.Circuit.{Event, Harmless, Run, nothingYet, Circuit, freshWith, said, next, after, AllHarmless, NoCallPlaced}
+use Rattle.runs.specs.Circuit.{Event, Harmless, Run, nothingYet, Circuit, freshWith, said, next, after, AllHarmless, NoCallPlaced}
 
 -- What the step that places a call leaves (`called`), whatever the station was and whatever the identity: the first call burst is on the
 -- way to a station at Stand-by, whatever that one's identity and whatever it has heard before. Nothing has been carried yet.

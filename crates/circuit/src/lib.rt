@@ -1,1 +1,1 @@
-// Two fresh stations of mode A on one circuit: specs/Circuit.antt, specs/Demand.antt and proofs/. No code.
+// Two stations of mode A on one circuit, fresh or after a call: specs/Demand.antt and proofs/. No code.

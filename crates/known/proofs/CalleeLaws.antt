@@ -32,7 +32,7 @@ use Rattle.mode_a.specs.Step.{repeats, knowing, meets, isOver, done}
 use Rattle.runs.specs.Places.{isStandBy}
 use Rattle.runs.specs.Runs.{nextStage}
 use Rattle.runs.proofs.StepLaws.{Answers as Answered, answers, by-repeat, by-again, by-meet, by-listen, standby-answers3, standby-listens, lost-stays}
-use Rattle.circuit.specs.Circuit.{Event, heard, Harmless, Circuit, said, placesCall, answeredBy}
+use Rattle.runs.specs.Circuit.{Event, heard, Harmless, Circuit, said, placesCall, answeredBy}
 use Rattle.circuit.proofs.DamageLaws.{Mangled, mangled, whole-words, no-block, no-words as not-words, whole-told}
 use Rattle.circuit.proofs.ReplyLaws.{ααα-signals, βαβ-signals, RQ×3-signals}
 use Rattle.circuit.proofs.CallStepLaws.{not-two, neither-two, AllOrNone, identity-rqs, identity-no-alphas, no-alphas, rqs-are, begins-none, all-none, asked}

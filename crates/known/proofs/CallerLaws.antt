@@ -38,7 +38,7 @@ use Rattle.runs.specs.Places.{isSending}
 use Rattle.runs.specs.Runs.{InOrder, taking, nextStage}
 use Rattle.runs.specs.Taken.{blockOf}
 use Rattle.runs.proofs.StepLaws.{Answers as Answered, answers, by-again}
-use Rattle.circuit.specs.Circuit.{Event, heard, Harmless, Circuit, said, confirmedBy, acceptedBy, answeredBy}
+use Rattle.runs.specs.Circuit.{Event, heard, Harmless, Circuit, said, confirmedBy, acceptedBy, answeredBy}
 use Rattle.circuit.specs.Starts.{Begins, with-block, with-end, CallCompleted, CallTurned}
 use Rattle.circuit.proofs.DamageLaws.{mangled, FirstIs, said as as-said, unsaid}
 use Rattle.circuit.proofs.ReplyLaws.{asks-first, silence-first, first-of}

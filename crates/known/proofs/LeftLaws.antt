@@ -39,7 +39,7 @@ use Rattle.mode_a.specs.Step.{soundPlace, done}
 use Rattle.runs.specs.Places.{isStandBy}
 use Rattle.runs.proofs.RowLaws.{by-sending, by-turning, by-opening, by-ending, by-receiving, by-asking, by-standing}
 use Rattle.runs.proofs.StepLaws.{Answers as Answered, answers, held-block, by-repeat, by-again, by-take-block, by-accept, by-listen, standby-listens}
-use Rattle.circuit.specs.Circuit.{Event, heard, Harmless, Circuit, said, placesCall, answeredBy, goesOn, next}
+use Rattle.runs.specs.Circuit.{Event, heard, Harmless, Circuit, said, placesCall, answeredBy, goesOn, next}
 use Rattle.circuit.proofs.DamageLaws.{all-three, Mangled, mangled, no-words, whole-told}
 use Rattle.circuit.proofs.ReplyLaws.{ααα-signals, RQ×3-signals, single-no-call, Fine, both-none, no-call, no-call3}
 use Rattle.circuit.proofs.CallStepLaws.{all-none, asked}

@@ -33,7 +33,7 @@ use Rattle.mode_a.specs.Heard.{firstOf}
 use Rattle.mode_a.specs.Rows.{isLast}
 use Rattle.runs.specs.Runs.{taking, nextStage}
 use Rattle.runs.specs.Taken.{takenIf}
-use Rattle.circuit.specs.Circuit.{nothingYet, Circuit, confirmedBy, acceptedBy, answeredBy}
+use Rattle.runs.specs.Circuit.{nothingYet, Circuit, confirmedBy, acceptedBy, answeredBy}
 use Rattle.circuit.proofs.CallStepLaws.{asked}
 use Rattle.known.proofs.BlockLaws.{CallBlock, SameSo}
 

@@ -33,7 +33,7 @@ use Rattle.mode_a.specs.Answerback.{codeSignals, holdsNeither, passes, owedExis
 use Rattle.mode_a.specs.Step.{called3, begun, unidentified, trafficIn, done, sound, stepping}
 use Rattle.runs.specs.Places.{isIdentifying, isAnswering}
 use Rattle.runs.specs.Runs.{start}
-use Rattle.circuit.specs.Circuit.{Event, Run, nothingYet, Circuit, after, AllHarmless, NoCallPlaced}
+use Rattle.runs.specs.Circuit.{Event, Run, nothingYet, Circuit, after, AllHarmless, NoCallPlaced}
 use Rattle.circuit.specs.Starts.{Call3Placed}
 use Rattle.circuit.proofs.Computed.{run-of, through, computed}
 use Rattle.circuit.proofs.Runs.{clear, none, ordinary}

@@ -26,7 +26,7 @@ use Rattle.mode_a.specs.Over.{listened}
 use Rattle.mode_a.specs.Answerback.{codeSignals, holdsNeither, passes, owedExists}
 use Rattle.mode_a.specs.Step.{trafficIn, done, sound, stepping}
 use Rattle.runs.specs.Runs.{start}
-use Rattle.circuit.specs.Circuit.{Event, nothingYet, Circuit, next, after}
+use Rattle.runs.specs.Circuit.{Event, nothingYet, Circuit, next, after}
 use Rattle.circuit.specs.Starts.{Call3Placed, with-block, CallCompleted, CallTurned}
 use Rattle.circuit.proofs.Computed.{run-of, through, computed}
 use Rattle.circuit.proofs.Runs.{clear, faded, struck, text, none, Ordinary, ordinary}

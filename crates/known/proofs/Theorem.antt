@@ -26,7 +26,7 @@ use Rattle.runs.specs.Places.{isCalling3, isIdentifying}
 use Rattle.runs.specs.Runs.{start, _▷_, InOrder}
 use Rattle.runs.proofs.PlaceLaws.{is-standby}
 use Rattle.runs.proofs.StepLaws.{Answers as Answered, answers, by-listen, standby-answers, standby-answers3, standby-listens}
-use Rattle.circuit.specs.Circuit.{Event, heard, Harmless, Run, nothingYet, Circuit, said, placesCall, answeredBy, goesOn, next, after, AllHarmless, NoCallPlaced}
+use Rattle.runs.specs.Circuit.{Event, heard, Harmless, Run, nothingYet, Circuit, said, placesCall, answeredBy, goesOn, next, after, AllHarmless, NoCallPlaced}
 use Rattle.circuit.specs.Starts.{Call3Placed, Begins, with-block, with-end, CallCompleted, CallTurned}
 use Rattle.known.specs.Known.{PlacingLeaves3, KnownToBoth, toTraffic, LeavesCompleted3, identifies, NothingPrinted}
 use Rattle.known.proofs.BlockLaws.{first, Late, SameSo}

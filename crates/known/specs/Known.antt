@@ -19,7 +19,7 @@ use Rattle.mode_a.specs.declared.Offer.{Offer}
 use Rattle.mode_a.specs.declared.Reply.{Reply}
 use Rattle.mode_a.specs.Step.{sound}
 use Rattle.runs.specs.Places.{isSending, isTurning, isEnding, isStandBy, isCalling3, isIdentifying, isAnswering}
-use Rattle.circuit.specs.Circuit.{Event, Harmless, Run, nothingYet, Circuit, said, next, after, AllHarmless, NoCallPlaced}
+use Rattle.runs.specs.Circuit.{Event, Harmless, Run, nothingYet, Circuit, said, next, after, AllHarmless, NoCallPlaced}
 use Rattle.circuit.specs.Starts.{Call3Placed, CallCompleted, CallTurned}
 
 -- a station at Stand-by that takes a call of three blocks, facing another at Stand-by that has heard none of its own call blocks: that is

@@ -41,7 +41,7 @@ fn column_of(case: Case, row: Row) -> u8
 
 // The byte that a word prints in a case; 0 where it prints none. A word that may stand is the error mark, or a traffic signal, which has
 // a row: the search always hits.
-fn glyph(case: Case, word: u8) -> u8
+pub fn glyph(case: Case, word: u8) -> u8
     requires { ⌜ mayPrint word ≡ true ⌝ }
     ensures { λ r. ⌜ putOf r ≡ bytesOf case word ⌝ }
 {

@@ -1,1 +1,2 @@
-// Runs of one station of mode A, and what is asked of a place and of a step: specs/Lib.antt and proofs/Lib.antt are the index. No code.
+// Runs of stations of mode A, of one and of two on one circuit, and what is asked of a place and of a step: specs/Lib.antt and proofs/Lib.antt
+// are the index. No code.
