@@ -2740,6 +2740,8 @@ def starved_passage(draw, whose, place, bad, offer):
     often; and what shows whether it is Lost."""
     made = led_passage(draw, whose, place)
     if offer is not None:
+        while not made.free(whose):
+            made = led_passage(draw, whose, place)
         made.offer(draw, whose, offer)
     for _ in range(bad):
         made.bursts(1, draw.choice((7, 7, 1)) if place not in (RECEIVING, ASKING)

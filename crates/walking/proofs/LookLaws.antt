@@ -11,8 +11,8 @@ use Rattle.entries.specs.Entries.{Reads, Rest, nothing, unknown-kind, cut-short
 use Rattle.entries.specs.Passage.{Passage, faultOf, Outcome, told, fault, ofRest}
 use Rattle.entries.specs.Passing.{saidPassed}
 use Rattle.entries.proofs.WalkLaws.{walked, Left}
-use Rattle.replay.specs.declared.Fault.{Fault}
-use Rattle.replay.specs.Replay.{numberOf}
+use Rattle.telling.specs.declared.Fault.{Fault}
+use Rattle.telling.specs.Telling.{numberOf}
 use Rattle.walking.specs.declared.Walk.{Walk}
 use Rattle.walking.specs.declared.Look.{Look}
 use Rattle.walking.specs.Walk.{walkOf, saidOf, outcomeAt, EndsAt, Answers, LooksAt, Looks}

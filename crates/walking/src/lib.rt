@@ -9,9 +9,9 @@ use entries::Entry;
 use entries::Passed;
 use entries::Read;
 use mode_a::Role;
-use replay::Fault;
 use replay::State;
 use signals::Case;
+use telling::Fault;
 use typing::Typed;
 
 // A walk between two entries: the place of the next, the two stations, and what each has printed.
@@ -90,7 +90,7 @@ fn look_at(bytes: &[u8], walk: Walk) -> Look
         Read::Entry(entry, next) => {
             let state = walk.state;
             let standing = state.standing;
-            match replay::fault_of(standing, entry) {
+            match telling::fault_of(standing, entry) {
                 Fault::None => Look::Tell(entry, next),
                 Fault::BadBurst => Look::Answer(Passed::BadBurst(at)),
                 Fault::StillOffered => Look::Answer(Passed::StillOffered(at)),

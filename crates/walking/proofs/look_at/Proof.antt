@@ -2,7 +2,7 @@
 use mathlib.Core.Path.{refl}
 use native.Mathlib.Omega.{arith}
 use Rattle.entries.specs.declared.Passed.{Passed}
-use Rattle.replay.specs.declared.Fault.{Fault}
+use Rattle.telling.specs.declared.Fault.{Fault}
 use Rattle.walking.proofs.LookLaws.{looks-tell, looks-fault, looks-end, looks-unknown, looks-short}
 use borrow.Author.Needs.{needs}
 use Rattle.walking.proofs.look_at.Statement.{statement}
@@ -10,7 +10,7 @@ use Rattle.walking.proofs.look_at.Tie as tie
 use Rattle.walking.proofs.look_at.Reads as reads
 use Rattle.walking.proofs.look_at.Lts as lts
 use Rattle.entries.proofs.entry_at.Reads as entry-at-reads
-use Rattle.replay.proofs.fault_of.Reads as fault-of-reads
+use Rattle.telling.proofs.fault_of.Reads as fault-of-reads
 
 entry-at-requires : tie.Need-entry-at-requires
 entry-at-requires c κs = search needs

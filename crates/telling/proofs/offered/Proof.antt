@@ -1,9 +1,9 @@
--- `replay::offered` meets its contract. Assumes nothing.
+-- `telling::offered` meets its contract. Assumes nothing.
 use borrow.Author.Needs.{needs}
-use Rattle.replay.proofs.offered.Statement.{statement}
-use Rattle.replay.proofs.offered.Tie as tie
-use Rattle.replay.proofs.offered.Reads as reads
-use Rattle.replay.proofs.offered.Lts as lts
+use Rattle.telling.proofs.offered.Statement.{statement}
+use Rattle.telling.proofs.offered.Tie as tie
+use Rattle.telling.proofs.offered.Reads as reads
+use Rattle.telling.proofs.offered.Lts as lts
 
 enum-told : tie.Need-enum-told
 enum-told c = search needs

@@ -1,10 +1,10 @@
--- `replay::arrived` meets its contract. Assumes nothing.
+-- `telling::arrived` meets its contract. Assumes nothing.
 use borrow.Author.Tests.{eq-eqb, ne-eqb}
 use borrow.Author.Needs.{needs}
-use Rattle.replay.proofs.arrived.Statement.{statement}
-use Rattle.replay.proofs.arrived.Tie as tie
-use Rattle.replay.proofs.arrived.Reads as reads
-use Rattle.replay.proofs.arrived.Lts as lts
+use Rattle.telling.proofs.arrived.Statement.{statement}
+use Rattle.telling.proofs.arrived.Tie as tie
+use Rattle.telling.proofs.arrived.Reads as reads
+use Rattle.telling.proofs.arrived.Lts as lts
 
 returns : tie.Need-returns
 returns c = rw (eq-eqb _ _ (c .if1 .taken))

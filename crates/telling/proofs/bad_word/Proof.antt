@@ -1,10 +1,10 @@
--- `replay::bad_word` meets its contract. Assumes nothing.
-use Rattle.replay.proofs.FaultLaws.{one-is-bad}
+-- `telling::bad_word` meets its contract. Assumes nothing.
+use Rattle.telling.proofs.FaultLaws.{one-is-bad}
 use borrow.Author.Needs.{needs}
-use Rattle.replay.proofs.bad_word.Statement.{statement}
-use Rattle.replay.proofs.bad_word.Tie as tie
-use Rattle.replay.proofs.bad_word.Reads as reads
-use Rattle.replay.proofs.bad_word.Lts as lts
+use Rattle.telling.proofs.bad_word.Statement.{statement}
+use Rattle.telling.proofs.bad_word.Tie as tie
+use Rattle.telling.proofs.bad_word.Reads as reads
+use Rattle.telling.proofs.bad_word.Lts as lts
 
 may-hold-requires : tie.Need-may-hold-requires
 may-hold-requires c κs = search needs

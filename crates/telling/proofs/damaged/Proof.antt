@@ -1,11 +1,11 @@
--- `replay::damaged` meets its contract. Assumes nothing.
+-- `telling::damaged` meets its contract. Assumes nothing.
 use native.Mathlib.Omega.{arith}
-use Rattle.replay.proofs.DamageLaws.{arrives-masked}
+use Rattle.telling.proofs.DamageLaws.{arrives-masked}
 use borrow.Author.Needs.{needs}
-use Rattle.replay.proofs.damaged.Statement.{statement}
-use Rattle.replay.proofs.damaged.Tie as tie
-use Rattle.replay.proofs.damaged.Reads as reads
-use Rattle.replay.proofs.damaged.Lts as lts
+use Rattle.telling.proofs.damaged.Statement.{statement}
+use Rattle.telling.proofs.damaged.Tie as tie
+use Rattle.telling.proofs.damaged.Reads as reads
+use Rattle.telling.proofs.damaged.Lts as lts
 
 arrived-requires : tie.Need-arrived-requires
 arrived-requires c κs = search needs
@@ -17,7 +17,7 @@ arrived-requires-3 : tie.Need-arrived-requires-3
 arrived-requires-3 c κs = search needs
 
 returns : tie.Need-returns
-returns c = 
+returns c =
     let a = c .before .before .before in
     let d = a .args .damage in
     let byte = a .fits .damage .fits in
