@@ -2878,7 +2878,7 @@ def long_passages(draw):
     yield "the most that a slave prints", slave
     # Over 65,536 bytes.
     yield "much that a master prints", TURNED + to_the_master(draw, 22000)
-    yield "a fault at the very end", slave[:-2] + b"\5\1"
+    yield "a fault behind much else", slave[:66000] + b"\2"
     # One more: nothing is run, whatever is wrong with it.
     yield "too long, and clean", slave + b"\7"
     for size in (most - 1, most, most + 1, most + 100):

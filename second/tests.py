@@ -4376,7 +4376,7 @@ def inputs_of_passages():
     for size in (262144, 262145):
         assert sizes[size] == {b"\0", b"\1", b"\2", b"\3"}
     assert 262143 in sizes and 262244 in sizes
-    assert (0, 98304) in printed and (11, 262143) in printed
+    assert (0, 98304) in printed and (11, 66000) in printed
     assert any(one.slave == 0 and one.master > 65536 for one in printed
                if not isinstance(one, Refused))
 

@@ -2,6 +2,7 @@
 --     every-burst-is-a-step   the events told are a run that demand 3 speaks of, and all of them are steps
 --     demand-3-ashore         so demand 3 holds after every entry
 --     records-reach           a record without a fault is told entry by entry
+--     accepted-read-back      and its entries, written, are the record
 --     reached-are-records     and what is told so is a record without a fault
 --     bursts-alternate        its bursts alternate
 -- Assumes nothing.
@@ -40,8 +41,9 @@ use Rattle.entries.specs.declared.Standing.{Standing}
 use Rattle.entries.specs.Entries.{otherRole, sameRole, written, recordOf, Rest, nothing, unknown-kind, cut-short}
 use Rattle.entries.specs.Passage.{Passage, begins, circuitOf, offerTo, offering, damageTo, hearing, eventOf, turned, answeredTo, afterBurst, afterOffer, tells, stands, faultOf, told, fault, tellsAll}
 use Rattle.entries.specs.Passing.{outcomeFrom}
-use Rattle.entries.proofs.ReadBackLaws.{entries-read-back}
-use Rattle.ashore.specs.Ashore.{Reached, at-first, one-more, RecordsReach, ReachedAreRecords, AllSteps, EveryBurstIsAStep, Demand3Ashore, burstsIn, Alternate, BurstsAlternate}
+use Rattle.entries.proofs.ReadBackLaws.{read-back, entries-read-back}
+use Rattle.entries.proofs.TellLaws.{told-whole}
+use Rattle.ashore.specs.Ashore.{Reached, at-first, one-more, RecordsReach, AcceptedReadBack, ReachedAreRecords, AllSteps, EveryBurstIsAStep, Demand3Ashore, burstsIn, Alternate, BurstsAlternate}
 use Rattle.ashore.proofs.RoleLaws.{role-stays}
 
 -- what may stand for a station: no call, and a text only if it is a block
@@ -258,6 +260,10 @@ reach-on (e ∷ es) rest at ds p q y i =
 pub records-reach : RecordsReach
 unfolding outcomeFrom
 records-reach bytes p i = reach-on (recordOf bytes .entries) (recordOf bytes .rest) 0 [] begins p at-first i
+
+pub accepted-read-back : AcceptedReadBack
+unfolding outcomeFrom
+accepted-read-back bytes p i = read-back bytes (told-whole (recordOf bytes .entries) (recordOf bytes .rest) 0 begins p i)
 
 -- and what is reached is a record without a fault
 tells-on : (es ds : List Entry) (at : ℕ) (p q : Passage) → tellsAll es nothing at p ≡ told q → (n : ℕ) × (tellsAll (es ++ ds) nothing at p ≡ tellsAll ds nothing n q)

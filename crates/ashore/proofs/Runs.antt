@@ -5,19 +5,25 @@
 --     turned-over                    an over is sent through bad reception, and the other station answers
 --     over-at-receiving-turns        an over offered to the station that receives turns the direction, and puts no block on the way
 --     who-are-you                    D in figures has the other station answer, though nothing is offered to it
---     faults, in-one-entry, rooms    the refusals: each with its place; two in one entry; the rooms, the master's first
+--     faults, in-one-entry           the refusals: each with its place; two in one entry
+--     first-fault, stands-for-good   the first entry with a fault counts; an offer that is never taken
+--     rooms                          a room that is too short, the master's first
 --     of-that-record                 demand 3 of the call, of the record of asked-again
 -- Assumes nothing.
 use mathlib.Core.Path.{_≡_, refl, ap, sym, subst, _∙_}
-use mathlib.Core.List.{List, [], _∷_}
+use mathlib.Core.List.{List, [], _∷_, _++_}
 use Prim.Native.Nat.{ℕ}
+use lib.ListN.{length}
 use Rattle.signals.specs.Meaning.{meaningOf, trafficOf, wordNo, figures, beta}
 use Rattle.signals.specs.Numbers.{Answer, answered, refused, firstNot}
 use Rattle.text.specs.Printing.{printed, bytesOf}
 use Rattle.mode_a.specs.declared.Words.{Words}
 use Rattle.mode_a.specs.declared.Role.the-variants.{Master, Slave}
 use Rattle.mode_a.specs.Station.{words}
-use Rattle.mode_a.specs.Heard.{firstOf, mayHold, isBlock, isWords, heardOf}
+use Rattle.identity.specs.Table3.{isIdentity}
+use Rattle.identity.specs.Sums.{isCallable7}
+use Rattle.mode_a.specs.Calls.{isCallable}
+use Rattle.mode_a.specs.Heard.{furtherOf, firstOf, mayHold, isBlock, isWords, callOf, call3Of, heardOf}
 use Rattle.mode_a.specs.Over.{who, listened}
 use Rattle.mode_a.specs.Answerback.{βββ, codeSignals, holdsNeither, passes, answerKeeping, answerOf, blockOwed, owedThen, owedExists}
 use Rattle.mode_a.specs.Step.{trafficIn, done, sound, stepping}
@@ -151,10 +157,24 @@ faults =
       rq-offered = refl;
     }
 
--- within one entry 13 comes before 3; the first fault of a record counts, and it comes before a room that is too short
-pub in-one-entry : passing (5 ∷ 3 ∷ 0 ∷ 0 ∷ 0 ∷ []) 0 0 ≡ refused 13 1
+-- within one entry 13 comes before 3, and 11 before 12, 13 and 3
+pub in-one-entry :
+    (passing (5 ∷ 3 ∷ 0 ∷ 0 ∷ 0 ∷ []) 0 0 ≡ refused 13 1) × (passing (1 ∷ []) 0 0 ≡ refused 11 0)
+    × (passing (5 ∷ 3 ∷ []) 0 0 ≡ refused 11 1) × (passing (3 ∷ 0 ∷ 0 ∷ []) 0 0 ≡ refused 11 0)
 unfolding writtenAll passingFrom outcomeFrom readPast entryOf tellsAll after stepping sound owedExists passes codeSignals holdsNeither done firstNot isBlock mayHold trafficOf meaningOf heardOf firstOf isWords listened trafficIn printed bytesOf
-in-one-entry = refl
+in-one-entry = (refl, refl, refl, refl)
+
+-- the first entry with a fault counts, and it comes before a room that is too short
+pub first-fault :
+    (passing (1 ∷ 0 ∷ 9 ∷ []) 0 0 ≡ refused 12 0)
+    × (passing (writtenAll askedAgain ++ 9 ∷ []) 0 0 ≡ refused 10 (length (writtenAll askedAgain)))
+unfolding writtenAll passingFrom outcomeFrom readPast entryOf tellsAll after stepping sound owedExists passes codeSignals holdsNeither done firstNot isBlock mayHold trafficOf meaningOf heardOf firstOf isWords listened trafficIn printed bytesOf
+first-fault = (refl, refl)
+
+-- an offer to a station at Stand-by stands for good: the contact has ended, the slave is offered over twice, and the second is refused 13
+pub stands-for-good : passing (7 ∷ 2 ∷ 0 ∷ 1 ∷ 0 ∷ 6 ∷ 2 ∷ 0 ∷ 1 ∷ 0 ∷ 6 ∷ []) 0 0 ≡ refused 13 10
+unfolding writtenAll passingFrom outcomeFrom readPast entryOf tellsAll after stepping sound owedExists passes codeSignals holdsNeither done firstNot isBlock mayHold trafficOf meaningOf heardOf firstOf isWords listened trafficIn printed bytesOf furtherOf callOf call3Of isIdentity isCallable isCallable7
+stands-for-good = refl
 
 pub rooms : (passing (writtenAll turnedOver) 2 1 ≡ refused 2 3) × (passing (writtenAll turnedOver) 3 1 ≡ refused 2 2)
 unfolding writtenAll passingFrom outcomeFrom readPast entryOf tellsAll after stepping sound owedExists passes codeSignals holdsNeither done firstNot isBlock mayHold trafficOf meaningOf heardOf firstOf isWords listened trafficIn printed bytesOf

@@ -35,6 +35,10 @@ pub data Reached : List Entry → Passage → Type 0 where
 abbrev pub RecordsReach : Type 0
 RecordsReach = (bytes : List ℕ) (p : Passage) → outcomeFrom bytes 0 ≡ told p → Reached (recordOf bytes .entries) p
 
+-- the entries read of an accepted record, written, are the record byte for byte  R-249
+abbrev pub AcceptedReadBack : Type 0
+AcceptedReadBack = (bytes : List ℕ) (p : Passage) → outcomeFrom bytes 0 ≡ told p → writtenAll (recordOf bytes .entries) ≡ bytes
+
 abbrev pub ReachedAreRecords : Type 0
 ReachedAreRecords = (es : List Entry) (p : Passage) → Reached es p → outcomeFrom (writtenAll es) 0 ≡ told p
 

@@ -1,4 +1,5 @@
 // Runs one call many times on pseudo-random input and writes a check-sum of its answers (docs/COST.md, docs/FORMATS.md).
+use entries::Passed;
 use filters::Stream;
 use identity::Seven;
 use mode_a::Identity;
@@ -213,7 +214,7 @@ fn is_blank(bytes: &[u8], from: usize) -> bool {
 }
 
 fn may_run(call: u64, length: u64) -> bool {
-    if 7 < call {
+    if 8 < call {
         return false;
     }
     length <= 8192
@@ -247,13 +248,14 @@ fn asked_in(line: &[u8]) -> Asked {
 }
 
 // What a room is filled with: any bytes, characters, traffic signals with an error mark once in a while, traffic signals alone,
-// or the plan of 4,096 steps.
+// the plan of 4,096 steps, or the record of a passage.
 pub enum Filling {
     Bytes,
     Characters,
     Words,
     Traffic,
     Plan,
+    Record,
 }
 
 // The plan has five bytes a step: which word of the burst on the way is damaged (none where it is 3 or more), a kind of offer, and
@@ -274,6 +276,59 @@ fn word_drawn(g: u64) -> u8 {
     255
 }
 
+// The record has halves of 61 bytes, the master's and the slave's in turn: fifteen groups of four bytes, and then the station that
+// has the turn offers over. Every fifth group is a text of that station, the others are a burst of the slave and one of the master.
+fn of_turn(j: usize, master: u8, slave: u8) -> u8 {
+    if (j / 61) % 2 == 0 {
+        return master;
+    }
+    slave
+}
+
+// No text has D or + in it, so that it asks for nothing.
+fn text_byte(g: u64, j: usize, place: usize) -> u8 {
+    match place % 4 {
+        0 => of_turn(j, 3, 4),
+        1 => signals::LETTERS,
+        _ => TRAFFIC[drawn(g, 16) % 32],
+    }
+}
+
+// Damaged are some of the bursts behind the second and the third text: of four exchanges the three that are left see to it that the
+// text is taken. Behind the first text none is, since the turn takes all four.
+fn damage_drawn(g: u64, group: usize) -> u8 {
+    if group % 5 != 1 {
+        return 0;
+    }
+    if group == 1 {
+        return 0;
+    }
+    if drawn(g, 16) < 8 {
+        return (drawn(g, 16) % 8) as u8;
+    }
+    0
+}
+
+fn burst_byte(g: u64, place: usize) -> u8 {
+    match place % 4 {
+        0 => 2,
+        2 => 1,
+        _ => damage_drawn(g, place / 4),
+    }
+}
+
+// A record that has no fault.
+fn recorded(g: u64, j: usize) -> u8 {
+    let place = j % 61;
+    if place == 60 {
+        return of_turn(j, 5, 6);
+    }
+    if (place / 4) % 5 == 0 {
+        return text_byte(g, j, place);
+    }
+    burst_byte(g, place)
+}
+
 fn made(filling: Filling, g: u64, j: usize) -> u8 {
     match filling {
         Filling::Bytes => (drawn(g, 256) % 256) as u8,
@@ -281,6 +336,7 @@ fn made(filling: Filling, g: u64, j: usize) -> u8 {
         Filling::Words => word_drawn(g),
         Filling::Traffic => TRAFFIC[drawn(g, 32) % 32],
         Filling::Plan => planned(g, j),
+        Filling::Record => recorded(g, j),
     }
 }
 
@@ -776,6 +832,92 @@ fn run_receive(times: u64) -> u64 {
     receive_often(times, &stream[..slots])
 }
 
+// --- passage ---
+
+// What a station printed: how much, the last byte of it.
+fn mix_by(sum: u64, count: usize, room: &[u8]) -> u64 {
+    let told = mix(sum, count as u64);
+    if count == 0 {
+        return told;
+    }
+    if room.len() < count {
+        return told;
+    }
+    mix_byte(told, room[count - 1])
+}
+
+fn mix_passed(sum: u64, answer: Passed, by_master: &[u8], by_slave: &[u8]) -> u64 {
+    match answer {
+        Passed::Printed { master, slave } => mix_by(
+            mix_by(sum, master, by_master),
+            slave,
+            by_slave,
+        ),
+        Passed::UnknownKind(place) => mix_refusal(sum, 10, place as u64),
+        Passed::CutShort(place) => mix_refusal(sum, 11, place as u64),
+        Passed::BadBurst(place) => mix_refusal(sum, 12, place as u64),
+        Passed::StillOffered(place) => mix_refusal(sum, 13, place as u64),
+        Passed::BadWord(place) => mix_refusal(sum, 3, place as u64),
+        Passed::NoRoom(needed) => mix_refusal(sum, 2, needed as u64),
+    }
+}
+
+fn passage_often(
+    times: u64,
+    bytes: &[u8],
+    by_master: &mut [u8],
+    by_slave: &mut [u8],
+    from: u64,
+) -> u64 {
+    let mut sum = from;
+    let mut i: u64 = 0;
+    while i < times {
+        let answer = passing::passage(bytes, by_master, by_slave);
+        sum = mix_passed(sum, answer, by_master, by_slave);
+        i += 1;
+    }
+    sum
+}
+
+// Three signals to the slave, which they print.
+const ONE_BLOCK: [u8; 8] = [3, 71, 71, 71, 2, 0, 1, 0];
+
+const OUT_OF_TURN: [u8; 2] = [1, 0];
+
+const NO_TEXT: [u8; 4] = [3, 0, 0, 0];
+
+fn passage_refused() -> u64 {
+    let mut by_master = [0u8; 2];
+    let mut by_slave = [0u8; 2];
+    let unknown = passing::passage(&[0u8; 1], &mut by_master, &mut by_slave);
+    let cut_short = passing::passage(&[2u8; 1], &mut by_master, &mut by_slave);
+    let bad_burst = passing::passage(&OUT_OF_TURN, &mut by_master, &mut by_slave);
+    let still_offered = passing::passage(&[5u8; 2], &mut by_master, &mut by_slave);
+    let bad_word = passing::passage(&NO_TEXT, &mut by_master, &mut by_slave);
+    let no_room = passing::passage(&ONE_BLOCK, &mut by_master, &mut by_slave);
+    let one = mix_passed(0, unknown, &by_master, &by_slave);
+    let two = mix_passed(one, cut_short, &by_master, &by_slave);
+    let three = mix_passed(two, bad_burst, &by_master, &by_slave);
+    let four = mix_passed(three, still_offered, &by_master, &by_slave);
+    let five = mix_passed(four, bad_word, &by_master, &by_slave);
+    mix_passed(five, no_room, &by_master, &by_slave)
+}
+
+fn run_passage(times: u64, length: usize) -> u64 {
+    let mut bytes = [0u8; 8192];
+    let mut by_master = [0u8; 8192];
+    let mut by_slave = [0u8; 8192];
+    fill(&mut bytes, Filling::Record);
+    let count = first(&bytes, length);
+    passage_often(
+        times,
+        &bytes[..count],
+        &mut by_master,
+        &mut by_slave,
+        passage_refused(),
+    )
+}
+
 fn answer(stream: Stream, output: &mut [u8], name: &[u8], sum: u64) {
     let mut line = [0u8; 32];
     let mut at = numbers::put_all(&mut line, 0, name);
@@ -808,7 +950,13 @@ fn run(stream: Stream, output: &mut [u8], asked: Asked) {
             run_slot(asked.times, asked.length),
         ),
         6 => answer(stream, output, b"receive ", run_receive(asked.times)),
-        _ => answer(stream, output, b"call ", run_call(asked.times)),
+        7 => answer(stream, output, b"call ", run_call(asked.times)),
+        _ => answer(
+            stream,
+            output,
+            b"passage ",
+            run_passage(asked.times, asked.length),
+        ),
     }
 }
 
@@ -835,6 +983,6 @@ fn main() {
     }
     filters::tell(
         b"bench",
-        b"no such call: the input is CALL N L, CALL 1 to 7, L at most 8192",
+        b"no such call: the input is CALL N L, CALL 1 to 8, L at most 8192",
     );
 }

@@ -119,3 +119,17 @@ text-grows-all (e ∷ es) rest at p q by h =
         length (textOf p by) ≤ length (textOf q by)
     by-fault true later g = omega (arith, text-grows p e by, later g)
     by-fault false later g = absurd (true≢false (sym (ap isTold g)))
+
+-- a record that is told to its end has nothing behind its last entry
+pub told-whole : (es : List Entry) (rest : Rest) (at : ℕ) (p q : Passage) → tellsAll es rest at p ≡ told q → rest ≡ nothing
+unfolding tellsAll
+told-whole [] nothing at p q h = refl
+told-whole [] unknown-kind at p q h = absurd (true≢false (sym (ap isTold h)))
+told-whole [] cut-short at p q h = absurd (true≢false (sym (ap isTold h)))
+told-whole (e ∷ es) rest at p q h =
+    by-fault (eqb (faultOf (p .standing) e) 0) (λ g. told-whole es rest (at + length (written e)) (tells p e) q g) h
+  where
+    by-fault : (t : Bool) → (tellsAll es rest (at + length (written e)) (tells p e) ≡ told q → rest ≡ nothing) →
+        (if t then tellsAll es rest (at + length (written e)) (tells p e) else fault (faultOf (p .standing) e) at) ≡ told q → rest ≡ nothing
+    by-fault true later g = later g
+    by-fault false later g = absurd (true≢false (sym (ap isTold g)))

@@ -102,7 +102,7 @@ faultOf s (Text r w) = if stands (offerTo s r) then 13 else if ltb (firstNot may
 faultOf s (Over r) = if stands (offerTo s r) then 13 else 0
 faultOf s (End r) = if stands (offerTo s r) then 13 else 0
 
--- The whole record, from an entry's place on: "the first in the record counts".
+-- The whole record, from an entry's place on: "the first in the record counts".  R-254
 --     10   "unknown kind"
 --     11   "body cut short"
 pub data Outcome : Type 0 where
@@ -120,8 +120,9 @@ tellsAll (e ∷ es) rest at p =
     if eqb (faultOf (p .standing) e) 0 then tellsAll es rest (at + length (written e)) (tells p e)
     else fault (faultOf (p .standing) e) at
 
--- "The run's printed text is that of 01's rows": what a step prints, the signals that a station has printed, and its bytes "by 01's printing", from letters
--- case. What the station that has sent printed was told in the direction from the one that hears next.  R-253
+-- "The run's printed text is that of 01's rows": what a step prints; the signals that a station has printed so far; and their bytes by 01's
+-- printing, from letters case. A station prints what comes from the other: the one that has sent, what comes from the one that hears next.
+-- R-253
 abbrev pub printedIn : Answer Reply → List ℕ
 printedIn (answered r) = printedBy r
 printedIn (refused n v) = []

@@ -65,7 +65,7 @@ abbrev pub counted : Answer Texts → Answer Counts
 counted (answered t) = answered (record { master = length (t .master); slave = length (t .slave) })
 counted (refused n v) = refused n v
 
--- the lent rooms after the call: "Any refusal leaves both rooms as they were"
+-- the lent rooms after the call: a refusal leaves both as they were (01: "writes nothing into lent memory")
 abbrev pub masterLeft : Answer Texts → List ℕ → List ℕ
 masterLeft (answered t) room = over (t .master) room
 masterLeft (refused n v) room = room

@@ -35,7 +35,7 @@ pub struct Standing {
     pub slave: Offer,
 }
 
-// A record and a place in it (01, Shape of the code: the reader "walks the lent record and never copies it").
+// A record and a place in it (01, The shape of each place: "The reader walks the lent record and never copies it").  R-165
 pub struct Reader<'a> {
     pub bytes: &'a [u8],
     pub at: usize,

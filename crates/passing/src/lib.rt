@@ -25,7 +25,7 @@ fn passes_from(bytes: &[u8], at: usize, master: &mut [u8], slave: &mut [u8]) -> 
     walking::walked(bytes, at, master, slave, true)
 }
 
-// The reader's run: the reader is taken apart.
+// Runs over the record from where the reader stands: the reader is taken apart, and what walks has the slice and the number.
 fn run<'a>(reader: Reader<'a>, master: &mut [u8], slave: &mut [u8]) -> Passed
     ensures { λ r. ⌜ PassesFrom (now (reader .entry .bytes)) (reader .entry .at) (now (master .entry)) (now (slave .entry)) r (now (master .exit)) (now (slave .exit)) ⌝ }
 {

@@ -1,19 +1,21 @@
 -- No second answer: the promises of the inner functions (docs/PROMISES.md), as their contracts cite them, leave one.
 -- Assumes nothing.
-use mathlib.Core.Path.{_≡_, subst}
+use mathlib.Core.Path.{_≡_, refl, subst, sym, _∙_}
 use mathlib.Core.Bool.{Bool}
-use mathlib.Core.List.{List, [], _∷_}
-use Prim.Native.Nat.{ℕ, _<_}
+use mathlib.Core.List.{List, [], _∷_, _++_, append-cancel-left}
+use Prim.Native.Nat.{ℕ, zero, suc, _<_}
+use lib.Dec.{eqb}
 use lib.ListN.{length}
 use lib.Seq.{ext-getD}
 use Rattle.laws.specs.Choice.{if_then_else_}
-use Rattle.laws.proofs.Unique.{unique}
+use Rattle.laws.proofs.Unique.{unique, unique-by}
 use Rattle.numbers.specs.declared.Reader.{Reader}
 use Rattle.numbers.specs.declared.Event.{Event}
 use Rattle.numbers.specs.declared.Took.{Took}
 use Rattle.numbers.specs.declared.Line.{Line}
 use Rattle.numbers.specs.Steps.{freshReader, taking, endBrings}
 use Rattle.numbers.specs.Writing.{Puts, decimal, hexadecimal, PutsWord, fitsWord}
+use Rattle.signals.specs.declared.Case.{Case}
 use Rattle.signals.specs.declared.Row.{Row}
 use Rattle.signals.specs.Meaning.{trafficOf, cs4}
 use Rattle.signals.specs.Rows.{row, Rows}
@@ -22,8 +24,9 @@ use Rattle.identity.specs.declared.Seven.{Seven}
 use Rattle.identity.specs.Table3.{isIdentity}
 use Rattle.identity.specs.Sums.{signalsOf7, checkSum1, checkSum2, checkSum3, sameSeven}
 use Rattle.text.specs.Encoding.{hasSignal}
-use Rattle.text.specs.Printing.{mayPrint}
+use Rattle.text.specs.Printing.{mayPrint, bytesOf}
 use Rattle.judging.specs.Size.{sizesOf}
+use Rattle.printing.specs.Glyph.{putOf}
 use Rattle.mode_a.specs.declared.Role.{Role}
 use Rattle.mode_a.specs.declared.Role.the-variants.{Slave}
 use Rattle.mode_a.specs.declared.Number.{Number}
@@ -68,6 +71,21 @@ use Rattle.doings.specs.Doings.{doingOf}
 use Rattle.offers.specs.declared.Going.{Going}
 use Rattle.offers.specs.Goes.{nextOf, takesNext}
 use Rattle.refusals.specs.Parts.{badOffer, badCall}
+use Rattle.entries.specs.declared.Entry.{Entry}
+use Rattle.entries.specs.declared.Read.{Read}
+use Rattle.entries.specs.declared.Standing.{Standing}
+use Rattle.entries.specs.declared.Passed.{Passed}
+use Rattle.entries.specs.Entries.{otherRole, sameRole, Reads}
+use Rattle.entries.specs.Passage.{Passage, begins, tells, faultOf, signalsOf as signalsBy}
+use Rattle.entries.specs.Passing.{outcomeFrom, saidPassed}
+use Rattle.entries.proofs.Unique.{passedFrom, passed-back}
+use Rattle.typing.specs.declared.Typed.{Typed}
+use Rattle.typing.specs.Typing.{signalsIn, Types}
+use Rattle.replay.specs.declared.State.{State}
+use Rattle.replay.specs.declared.Fault.{Fault}
+use Rattle.replay.specs.declared.Gone.{Gone}
+use Rattle.replay.specs.Replay.{stateOf, numberOf, Goes}
+use Rattle.walking.specs.Walk.{Walks}
 
 -- `signals::rows`: that there are 35 rows is the answer's type, `[Row; 35]`, and `Rows` says what each is
 pub rows-unique : (r r′ : List Row) → length r ≡ 35 → length r′ ≡ 35 → Rows r → Rows r′ → r ≡ r′
@@ -88,6 +106,18 @@ first-bad-unique ws r r′ p q = unique p q
 
 pub needed-unique : (ws : List ℕ) (r r′ : ℕ) → r ≡ sizesOf ws → r′ ≡ sizesOf ws → r ≡ r′
 needed-unique ws r r′ p q = unique p q
+
+-- `printing::glyph`: the byte, read back from what is put for it
+abbrev byteIn : List ℕ → ℕ
+byteIn [] = 0
+byteIn (b ∷ bs) = b
+
+put-back : (r : ℕ) → byteIn (putOf r) ≡ r
+put-back zero = refl
+put-back (suc g) = refl
+
+pub glyph-unique : (c : Case) (w : ℕ) (r r′ : ℕ) → putOf r ≡ bytesOf c w → putOf r′ ≡ bytesOf c w → r ≡ r′
+glyph-unique c w r r′ p q = unique-by putOf byteIn put-back p q
 
 -- `identity::may_identify`, `identity::outside`, and the functions of `Seven`
 pub may-identify-unique : (w : ℕ) (r r′ : Bool) → r ≡ isIdentity w → r′ ≡ isIdentity w → r ≡ r′
@@ -375,3 +405,47 @@ fits-word-unique size at r r′ p q = unique p q
 pub put-word-unique : (room : List ℕ) (at column word : ℕ) (r r′ : Line) (after after′ : List ℕ) → PutsWord room at column word r after → PutsWord room at column word r′ after′ → (r ≡ r′) × (after ≡ after′)
 put-word-unique room at column word r r′ after after′ p q =
     (λ i. record { at = unique (p .0 .ended) (q .0 .ended) i; column = unique (p .1) (q .1) i }, unique (p .0 .holds) (q .0 .holds))
+
+-- `entries::other`, `entries::same`, `entries::entry_at`
+pub other-role-unique : (role r r′ : Role) → r ≡ otherRole role → r′ ≡ otherRole role → r ≡ r′
+other-role-unique role r r′ p q = unique p q
+
+pub same-role-unique : (one role : Role) (r r′ : Bool) → r ≡ sameRole one role → r′ ≡ sameRole one role → r ≡ r′
+same-role-unique one role r r′ p q = unique p q
+
+pub entry-at-unique : (bytes : List ℕ) (at : ℕ) (r r′ : Read) → Reads bytes at r → Reads bytes at r′ → r ≡ r′
+entry-at-unique bytes at r r′ p q = unique p q
+
+-- `typing::put`: the answer, and the lent room
+pub put-signals-unique : (ws : Words) (t : Typed) (write : Bool) (room : List ℕ) (r r′ : Typed) (after after′ : List ℕ) → Types (signalsIn ws) t write room r after → Types (signalsIn ws) t write room r′ after′ → (r ≡ r′) × (after ≡ after′)
+put-signals-unique ws t write room r r′ after after′ p q = (unique (p .0) (q .0), unique (p .1) (q .1))
+
+-- `replay::fresh`, `replay::fault_of`
+pub fresh-unique : (r r′ : State) → r ≡ stateOf begins → r′ ≡ stateOf begins → r ≡ r′
+fresh-unique r r′ p q = unique p q
+
+abbrev faultNo : ℕ → Fault
+faultNo n = if eqb n 12 then Fault.BadBurst else if eqb n 13 then Fault.StillOffered else if eqb n 3 then Fault.BadWord else Fault.None
+
+fault-back : (r : Fault) → faultNo (numberOf r) ≡ r
+fault-back Fault.None = refl
+fault-back Fault.BadBurst = refl
+fault-back Fault.StillOffered = refl
+fault-back Fault.BadWord = refl
+
+pub fault-of-unique : (s : Standing) (e : Entry) (r r′ : Fault) → numberOf r ≡ faultOf s e → numberOf r′ ≡ faultOf s e → r ≡ r′
+fault-of-unique s e r r′ p q = unique-by numberOf faultNo fault-back p q
+
+-- `replay::goes`, of a state that a passage has: the state after it, and the signals that each station prints. Where the zeros stand among
+-- the three words, and by whom nothing is printed, is left open.
+abbrev pub printsBy : Gone → Role → List ℕ
+printsBy r by = if sameRole by (r .by) then signalsIn (r .printed) else []
+
+pub goes-unique : (s : State) (e : Entry) (p : Passage) → s ≡ stateOf p → (r r′ : Gone) → Goes s (λ q. tells q e) r → Goes s (λ q. tells q e) r′ → (r .state ≡ r′ .state) × ((by : Role) → printsBy r by ≡ printsBy r′ by)
+goes-unique s e p stands r r′ g g′ =
+    (unique (g p stands .state-is) (g′ p stands .state-is), λ by. append-cancel-left (signalsBy p by) (printsBy r by) (printsBy r′ by) (sym (g p stands .prints by) ∙ g′ p stands .prints by))
+
+-- `walking::walked`: the answer, and the two lent rooms
+pub walked-unique : (write : Bool) (bytes : List ℕ) (from : ℕ) (m s : List ℕ) (r r′ : Passed) (m′ m″ s′ s″ : List ℕ) → Walks write (outcomeFrom bytes from) m s r m′ s′ → Walks write (outcomeFrom bytes from) m s r′ m″ s″ → (r ≡ r′) × (m′ ≡ m″) × (s′ ≡ s″)
+walked-unique write bytes from m s r r′ m′ m″ s′ s″ p q =
+    (unique-by saidPassed passedFrom passed-back (p .0) (q .0), unique (p .1) (q .1), unique (p .2) (q .2))

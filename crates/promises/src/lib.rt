@@ -2,8 +2,8 @@
 // promise that only makes the call. It is the one page of code that an approver reads, and it holds each promise in place: where the
 // `ensures` of a call is weakened, the function here is no longer proved and the gate fails. No code of the product calls these.
 //
-// What the promises say stands in the `specs/` of `signals`, `text`, `mode_a` and `mode_b`; that each leaves one answer, in their
-// `proofs/Unique.antt`. `now (text .entry)` is what the caller lends as the call begins, `now (room .exit)` the room as it ends. No
+// What the promises say stands in the `specs/` of `signals`, `text`, `mode_a`, `mode_b` and `entries`; that each leaves one answer, in
+// their `proofs/Unique.antt`. `now (text .entry)` is what the caller lends as the call begins, `now (room .exit)` the room as it ends. No
 // function has a `requires`: a call takes all inputs.
 ghost use mathlib.Core.Path.{_≡_};
 ghost use Rattle.signals.specs.Units.{intactOf};
@@ -14,6 +14,8 @@ ghost use Rattle.mode_a.specs.Station.{freshMaster, freshSlave, firstBurst, Sta
 ghost use Rattle.mode_a.specs.Step.{Steps, Codes};
 ghost use Rattle.mode_b.specs.Sender.{Slots};
 ghost use Rattle.mode_b.specs.Receiver.{freshReceiver, Receives};
+ghost use Rattle.entries.specs.Passing.{Passes};
+use entries::Passed;
 use identity::Seven;
 use mode_a::Code;
 use mode_a::Coded;
@@ -116,4 +118,11 @@ pub fn fresh_receiver() -> Receiver
     ensures { λ r. ⌜ r ≡ freshReceiver ⌝ }
 {
     Receiver::fresh()
+}
+
+// 02, T-07.
+pub fn passage(bytes: &[u8], master: &mut [u8], slave: &mut [u8]) -> Passed
+    ensures { λ r. ⌜ Passes (now (bytes .entry)) (now (master .entry)) (now (slave .entry)) r (now (master .exit)) (now (slave .exit)) ⌝ }
+{
+    passing::passage(bytes, master, slave)
 }

@@ -1,15 +1,15 @@
 -- What a step prints may be printed: of a row that accepts, the traffic signals of the block that it has heard; of any other, nothing.
 -- Assumes nothing.
 use mathlib.Core.Logic.{_⊎_, inl, inr}
-use mathlib.Core.Path.{_≡_, refl, ap, sym, _∙_, subst}
-use mathlib.Core.Bool.{Bool, true, false, _&&_, _||_, and-eq-true-iff, true≢false}
+use mathlib.Core.Path.{_≡_, refl, sym, _∙_, subst}
+use mathlib.Core.Bool.{Bool, true, false, and-eq-true-iff, true≢false}
 use mathlib.Core.List.{List, [], _∷_}
 use Prim.Native.Nat.{ℕ, _≤_}
 use native.Mathlib.Omega.{arith}
 use lib.Dec.{eqb}
 use lib.ListN.{length}
 use Rattle.laws.specs.Choice.{if_then_else_}
-use Rattle.signals.specs.Meaning.{trafficOf, beta, errorMark}
+use Rattle.signals.specs.Meaning.{trafficOf, beta}
 use Rattle.signals.specs.Numbers.{answered, firstNot}
 use Rattle.signals.proofs.NumberLaws.{all-cons}
 use Rattle.text.specs.Printing.{mayPrint}
@@ -26,11 +26,11 @@ use Rattle.mode_a.specs.declared.Station.{Station}
 use Rattle.mode_a.specs.declared.Doing.{Doing}
 use Rattle.mode_a.specs.declared.Doing.the-variants.{Repeats, Takes, Accepts, Listens, Reaches, Meets, Again}
 use Rattle.mode_a.specs.declared.Reply.{Reply}
-use Rattle.mode_a.specs.Station.{listOf, silence}
+use Rattle.mode_a.specs.Station.{silence}
 use Rattle.mode_a.specs.Heard.{Heard, mayHold, isBlock, heardOf}
 use Rattle.mode_a.specs.Over.{listenedAll}
 use Rattle.mode_a.specs.Rows.{rowOf}
-use Rattle.mode_a.specs.Step.{withoutβ, three, trafficIn, knowing, isOver, done, stepping}
+use Rattle.mode_a.specs.Step.{three, trafficIn, knowing, isOver, done, stepping}
 use Rattle.runs.specs.Circuit.{withoutZeros}
 use Rattle.runs.proofs.RowLaws.{by-sending, by-turning, by-opening, by-ending, by-receiving, by-asking, by-standing, by-calling, by-calling3, by-identifying, by-answering}
 use Rattle.runs.proofs.StepLaws.{answers, by-repeat, by-again, by-meet, by-take, by-accept, by-listen}

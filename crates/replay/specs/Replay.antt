@@ -1,7 +1,7 @@
 -- 02, T-07: the state between two entries, and what an entry leads to, beside the definition of a passage.
 -- Assumes nothing.
 use mathlib.Core.Path.{_≡_}
-use mathlib.Core.List.{List, [], _∷_, _++_}
+use mathlib.Core.List.{List, [], _++_}
 use Prim.Native.Nat.{ℕ, _≤_}
 use lib.ListN.{length}
 use Rattle.laws.specs.Choice.{if_then_else_}

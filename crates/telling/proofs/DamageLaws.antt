@@ -8,7 +8,7 @@ use lib.Bits.{bitAnd}
 use Rattle.laws.specs.Choice.{if_then_else_}
 use Rattle.laws.proofs.Table.{same-table}
 use Rattle.signals.specs.Units.{unit}
-use Rattle.signals.specs.Damage.{Damage, kept, hurt, arrives}
+use Rattle.signals.specs.Damage.{kept, hurt, arrives}
 use Rattle.entries.specs.Passage.{damageTo}
 
 masked : (i : ℕ) → i < 3 → (d : ℕ) → d < 256 → eqb (bitAnd d (2 ^ i)) 0 ≡ not (eqb (unit d i) 1)

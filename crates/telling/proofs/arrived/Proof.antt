@@ -1,6 +1,5 @@
 -- `telling::arrived` meets its contract. Assumes nothing.
 use borrow.Author.Tests.{eq-eqb, ne-eqb}
-use borrow.Author.Needs.{needs}
 use Rattle.telling.proofs.arrived.Statement.{statement}
 use Rattle.telling.proofs.arrived.Tie as tie
 use Rattle.telling.proofs.arrived.Reads as reads
