@@ -1,7 +1,7 @@
 -- 02, T-07: "An offer stands until taken", and demand 3: "the blocks taken from the other's offers". What a station takes over a record is
 -- the record's offers to it, in order, each once and none left out but the last where that still stands; and between them blocks of its own:
--- βββ, and the answers of T-06. (That βββ goes out only where no offer stands is the step's own rule.) The stations have the empty code, so an
--- answer is βββ twice and perhaps an over.  R-263
+-- βββ of its own accord, and the answers of T-06, for which an offer waits. The stations have the empty code, so an answer is βββ twice and
+-- perhaps an over. Whether an over that was taken put figures + ? on the way or was taken at Receiving is left open here.  R-263
 --
 -- What is easily got wrong: an over that is offered to a station at Receiving is taken and puts no block on the way, and end puts none that
 -- is held; an answer is sent though nothing was offered, and while it is sent the offer waits.

@@ -27,6 +27,7 @@ use Rattle.text.specs.Encoding.{hasSignal}
 use Rattle.text.specs.Printing.{mayPrint, bytesOf}
 use Rattle.judging.specs.Size.{sizesOf}
 use Rattle.printing.specs.Glyph.{putOf}
+use Rattle.signals.specs.Damage.{arrives}
 use Rattle.mode_a.specs.declared.Role.{Role}
 use Rattle.mode_a.specs.declared.Role.the-variants.{Slave}
 use Rattle.mode_a.specs.declared.Number.{Number}
@@ -55,7 +56,7 @@ use Rattle.mode_a.specs.declared.Reply.{Reply}
 use Rattle.mode_a.specs.declared.Doing.{Doing}
 use Rattle.mode_a.specs.declared.Doing.the-variants.{Bars, Ends, Meets}
 use Rattle.mode_a.specs.Calls.{signalsOf, callBlock1, callBlock2}
-use Rattle.mode_a.specs.Station.{words, single, silence, other, same, asksFor, markOf}
+use Rattle.mode_a.specs.Station.{words, single, silence, freshMaster, other, same, asksFor, markOf}
 use Rattle.mode_a.specs.Identification.{identityBlock, toldIn}
 use Rattle.mode_a.specs.Heard.{Cs, Cs3, Else, Cs4, Letter, mayHold, isWords, callOf, call3Of}
 use Rattle.mode_a.specs.Answerback.{passes, blockOwed, owedThen, owedExists}
@@ -76,15 +77,17 @@ use Rattle.entries.specs.declared.Read.{Read}
 use Rattle.entries.specs.declared.Standing.{Standing}
 use Rattle.entries.specs.declared.Passed.{Passed}
 use Rattle.entries.specs.Entries.{otherRole, sameRole, Reads}
-use Rattle.entries.specs.Passage.{Passage, begins, tells, faultOf, signalsOf as signalsBy}
+use Rattle.entries.specs.Passage.{Passage, begins, hearing, offerTo, offering, damageTo, tells, faultOf, signalsOf as signalsBy}
 use Rattle.entries.specs.Passing.{outcomeFrom, saidPassed}
 use Rattle.entries.proofs.Unique.{passedFrom, passed-back}
 use Rattle.typing.specs.declared.Typed.{Typed}
 use Rattle.typing.specs.Typing.{signalsIn, Types}
+use Rattle.telling.specs.declared.Fault.{Fault}
+use Rattle.telling.specs.declared.Told.{Told}
+use Rattle.telling.specs.Telling.{numberOf, toldBy, Leaves}
 use Rattle.replay.specs.declared.State.{State}
-use Rattle.replay.specs.declared.Fault.{Fault}
 use Rattle.replay.specs.declared.Gone.{Gone}
-use Rattle.replay.specs.Replay.{stateOf, numberOf, Goes}
+use Rattle.replay.specs.Replay.{stateOf, Goes}
 use Rattle.walking.specs.Walk.{Walks}
 
 -- `signals::rows`: that there are 35 rows is the answer's type, `[Row; 35]`, and `Rows` says what each is
@@ -420,7 +423,32 @@ entry-at-unique bytes at r r′ p q = unique p q
 pub put-signals-unique : (ws : Words) (t : Typed) (write : Bool) (room : List ℕ) (r r′ : Typed) (after after′ : List ℕ) → Types (signalsIn ws) t write room r after → Types (signalsIn ws) t write room r′ after′ → (r ≡ r′) × (after ≡ after′)
 put-signals-unique ws t write room r r′ after after′ p q = (unique (p .0) (q .0), unique (p .1) (q .1))
 
--- `replay::fresh`, `replay::fault_of`
+-- `telling::first`, `hearing`, `offer_to`, `offered`, `says`, `damaged`
+pub first-unique : (r r′ : Standing) → r ≡ begins .standing → r′ ≡ begins .standing → r ≡ r′
+first-unique r r′ p q = unique p q
+
+pub hearing-unique : (s : Standing) (r r′ : Role) → r ≡ hearing s → r′ ≡ hearing s → r ≡ r′
+hearing-unique s r r′ p q = unique p q
+
+pub offer-to-unique : (s : Standing) (role : Role) (r r′ : Offer) → r ≡ offerTo s role → r′ ≡ offerTo s role → r ≡ r′
+offer-to-unique s role r r′ p q = unique p q
+
+pub offered-unique : (s : Standing) (role : Role) (o : Offer) (r r′ : Standing) → r ≡ offering s role o → r′ ≡ offering s role o → r ≡ r′
+offered-unique s role o r r′ p q = unique p q
+
+pub says-unique : (e : Entry) (r r′ : Told) → r ≡ toldBy e → r′ ≡ toldBy e → r ≡ r′
+says-unique e r r′ p q = unique p q
+
+pub damaged-unique : (b : Words) (d : ℕ) (r r′ : Words) → r ≡ words (arrives (damageTo d 0) (b .0)) (arrives (damageTo d 1) (b .1)) (arrives (damageTo d 2) (b .2)) → r′ ≡ words (arrives (damageTo d 0) (b .0)) (arrives (damageTo d 1) (b .1)) (arrives (damageTo d 2) (b .2)) → r ≡ r′
+damaged-unique b d r r′ p q = unique p q
+
+-- `telling::turned`: it is told of every answer that took the offer or not, and there is one of each
+pub turned-unique : (s : Standing) (taken : Bool) (r r′ : Standing) → Leaves s taken r → Leaves s taken r′ → r ≡ r′
+turned-unique s taken r r′ p q =
+    let x : Reply = record { station = freshMaster; sent = silence; printed = silence; taken = taken } in
+    unique (p x refl) (q x refl)
+
+-- `replay::fresh`, `telling::fault_of`
 pub fresh-unique : (r r′ : State) → r ≡ stateOf begins → r′ ≡ stateOf begins → r ≡ r′
 fresh-unique r r′ p q = unique p q
 
