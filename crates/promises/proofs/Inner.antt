@@ -77,7 +77,7 @@ use Rattle.entries.specs.declared.Read.{Read}
 use Rattle.entries.specs.declared.Standing.{Standing}
 use Rattle.entries.specs.declared.Passed.{Passed}
 use Rattle.entries.specs.Entries.{otherRole, sameRole, Reads}
-use Rattle.entries.specs.Passage.{Passage, begins, hearing, offerTo, offering, damageTo, tells, faultOf, signalsOf as signalsBy}
+use Rattle.entries.specs.Passage.{Passage, begins, hearing as hearerOf, offerTo, offering, damageTo, tells, faultOf, signalsOf as signalsBy}
 use Rattle.entries.specs.Passing.{outcomeFrom, saidPassed}
 use Rattle.entries.proofs.Unique.{passedFrom, passed-back}
 use Rattle.typing.specs.declared.Typed.{Typed}
@@ -427,7 +427,7 @@ put-signals-unique ws t write room r r′ after after′ p q = (unique (p .0) (q
 pub first-unique : (r r′ : Standing) → r ≡ begins .standing → r′ ≡ begins .standing → r ≡ r′
 first-unique r r′ p q = unique p q
 
-pub hearing-unique : (s : Standing) (r r′ : Role) → r ≡ hearing s → r′ ≡ hearing s → r ≡ r′
+pub hearing-unique : (s : Standing) (r r′ : Role) → r ≡ hearerOf s → r′ ≡ hearerOf s → r ≡ r′
 hearing-unique s r r′ p q = unique p q
 
 pub offer-to-unique : (s : Standing) (role : Role) (r r′ : Offer) → r ≡ offerTo s role → r′ ≡ offerTo s role → r ≡ r′
