@@ -22,68 +22,41 @@ const WHO: u8 = 83;
 fn signal_in(l: Listening, word: u8) -> Listening
     ensures { result ≡ signal_in l.case l.plus l.over l.asked word }
 {
-    let case = l.case;
-    match case {
-        Case::Letters => {
-            // D is a letter here, and asks nothing
-            let asked = l.asked;
-            Listening {
-                case: Case::Letters,
-                plus: false,
-                over: l.over,
-                asked: asked,
-            }
-        }
-        Case::Figures => {
-            if word == CROSS {
-                return Listening {
-                    case: Case::Figures,
-                    plus: true,
-                    over: l.over,
-                    asked: l.asked,
-                };
-            }
-            if word == QUERY {
-                return Listening {
-                    case: Case::Figures,
-                    plus: false,
-                    over: l.over || l.plus,
-                    asked: l.asked,
-                };
-            }
-            Listening {
-                case: Case::Figures,
-                plus: false,
-                over: l.over,
-                asked: l.asked | (word == WHO),
-            }
-        }
+    match (l.case, word) {
+        (Case::Figures, CROSS) => Listening { plus: true, ..l },
+        (Case::Figures, QUERY) => Listening {
+            plus: false,
+            over: l.over || l.plus,
+            ..l
+        },
+        (Case::Figures, WHO) => Listening {
+            plus: false,
+            asked: true,
+            ..l
+        },
+        // in letters case D is a letter, and asks nothing
+        _ => Listening { plus: false, ..l },
     }
 }
 
+#[tactic(auto, unfolding(mode_a::specs::Over::listened))]
 fn listened(l: Listening, word: u8) -> Listening
     ensures { result ≡ listened l word }
 {
-    if word == signals::BETA {
-        return l;
-    }
-    if word == signals::LETTERS {
-        return Listening {
+    match word {
+        signals::BETA => l,
+        signals::LETTERS => Listening {
             case: Case::Letters,
             plus: false,
-            over: l.over,
-            asked: l.asked,
-        };
-    }
-    if word == signals::FIGURES {
-        return Listening {
+            ..l
+        },
+        signals::FIGURES => Listening {
             case: Case::Figures,
             plus: false,
-            over: l.over,
-            asked: l.asked,
-        };
+            ..l
+        },
+        _ => signal_in(l, word),
     }
-    signal_in(l, word)
 }
 
 // A block, from what the station has kept.
@@ -91,8 +64,8 @@ pub fn listened_all(case: Case, plus: bool, b: Words) -> Listening
     ensures { result ≡ listened_all case plus b }
 {
     let before = Listening {
-        case: case,
-        plus: plus,
+        case,
+        plus,
         over: false,
         asked: false,
     };
@@ -104,12 +77,14 @@ fn prepended(signal: u8, rest: Words) -> Words
     ensures { result ≡ prepended signal rest }
 {
     if signal == signals::BETA {
-        return rest;
+        rest
+    } else {
+        Words(signal, rest.0, rest.1)
     }
-    Words(signal, rest.0, rest.1)
 }
 
 // The traffic signals of a block, in order, with 0 behind them.
+#[tactic(auto, unfolding(mode_a::specs::Step::traffic_in))]
 fn traffic_in(b: Words) -> Words
     ensures { result ≡ traffic_in b }
 {
@@ -120,33 +95,22 @@ fn traffic_in(b: Words) -> Words
 pub fn is_over(offer: Offer) -> bool
     ensures { result ≡ is_over offer }
 {
-    match offer {
-        Offer::Text(_) => false,
-        Offer::Over => true,
-        Offer::End => false,
-        Offer::Nothing => false,
-        Offer::Call(_) => false,
-        Offer::Call3(_) => false,
-    }
+    matches!(offer, Offer::Over)
 }
 
 // What is owed behind a block with D in figures: the direction is kept where the over was heard in the same block.
 fn owed_for(l: Listening) -> Owed
     ensures { result ≡ owed_for l }
 {
-    if l.over {
-        return Owed::Keep(0);
-    }
-    Owed::Back(0)
+    if l.over { Owed::Keep(0) } else { Owed::Back(0) }
 }
 
 // D stood in figures in the block: CS3 turns the direction, the answer-back is owed, and no offer is taken, an over neither.
 fn is_asked(s: Station, b: Words, l: Listening) -> Reply
     ensures { result ≡ is_asked s b l }
 {
-    let owed = owed_for(l);
     Reply {
-        station: stands::asked_at(s, Place::Asking, l, owed),
+        station: stands::asked_at(s, Place::Asking, l, owed_for(l)),
         sent: Words(signals::CS3, 0, 0),
         printed: traffic_in(b),
         taken: false,
@@ -157,26 +121,17 @@ fn is_asked(s: Station, b: Words, l: Listening) -> Reply
 pub fn accepts(s: Station, number: Number, b: Words, offer: Offer) -> Reply
     ensures { result ≡ accepts s number b offer }
 {
-    let case = s.case;
-    let l = listened_all(case, s.plus, b);
+    let l = listened_all(s.case, s.plus, b);
     if l.asked {
         return is_asked(s, b, l);
     }
-    let offered = is_over(offer);
-    if offered {
+    let taken = is_over(offer);
+    if taken || l.over {
         return Reply {
             station: stands::heard_at(s, Place::Asking, l),
             sent: Words(signals::CS3, 0, 0),
             printed: traffic_in(b),
-            taken: true,
-        };
-    }
-    if l.over {
-        return Reply {
-            station: stands::heard_at(s, Place::Asking, l),
-            sent: Words(signals::CS3, 0, 0),
-            printed: traffic_in(b),
-            taken: false,
+            taken,
         };
     }
     let next = number.other();

@@ -89,74 +89,74 @@ spoilt l [] e = e
 spoilt l (w ∷ ws) e = spoilt (listened l w) ws (spoilt_next l w e)
 
 -- what `listened_in` has kept, where the word b came last
-abbrev kept : Bool → ℕ → Listening
-kept true b = keeping Figures (eqb b cross)
-kept false b = keeping Letters false
+abbrev kept : Case → ℕ → Listening
+kept Figures b = keeping Figures (eqb b cross)
+kept Letters b = keeping Letters false
 
-abbrev Judges : Bool → ℕ → List ℕ → Type 0
+abbrev Judges : Case → ℕ → List ℕ → Type 0
 Judges f b ws = judged f b ws ≡ (all_traffic ws && neither (listened_in (kept f b) ws))
 
 and_false : (a : Bool) → (a && false) ≡ false
 and_false true = refl
 and_false false = refl
 
-module _ (w : ℕ) (ws : List ℕ) (ih : (f : Bool) (b : ℕ) → Judges f b ws) where
+module _ (w : ℕ) (ws : List ℕ) (ih : (f : Case) (b : ℕ) → Judges f b ws) where
   -- ? in figures, behind + or not
-  query_next : (b : ℕ) → w ≡ query → (t : Bool) → eqb b cross ≡ t → Judges true b (w ∷ ws)
+  query_next : (b : ℕ) → w ≡ query → (t : Bool) → eqb b cross ≡ t → Judges Figures b (w ∷ ws)
   unfolding judged is_plain special traffic_of meaning_of listened
   query_next b e true x =
       rw (traffic_next w ws (ap traffic_of e), e, x, spoilt (record { case = Figures; plus = false; over = true; asked = false }) ws refl)
       (sym (and_false (all_traffic ws)))
-  query_next b e false x = rw (traffic_next w ws (ap traffic_of e), e, x) (ih true query)
+  query_next b e false x = rw (traffic_next w ws (ap traffic_of e), e, x, e) (ih Figures query)
 
   -- a plain word, + or not
-  plain_kept : (f : Bool) (b : ℕ) → traffic_of w ≡ true → eqb w letters ≡ false → eqb w figures ≡ false → eqb w who ≡ false → eqb w query ≡ false → (t : Bool) → eqb w cross ≡ t → listened (kept f b) w ≡ kept f w
+  plain_kept : (f : Case) (b : ℕ) → traffic_of w ≡ true → eqb w letters ≡ false → eqb w figures ≡ false → eqb w who ≡ false → eqb w query ≡ false → (t : Bool) → eqb w cross ≡ t → listened (kept f b) w ≡ kept f w
   unfolding listened
-  plain_kept true b t l g d q true x = rw (not_β w t, l, g, x)
-  plain_kept true b t l g d q false x = rw (not_β w t, l, g, x, q, d)
-  plain_kept false b t l g d q c x = simp (not_β w t, l, g)
+  plain_kept Figures b t l g d q true x = rw (not_β w t, l, g, x)
+  plain_kept Figures b t l g d q false x = rw (not_β w t, l, g, x, q, d)
+  plain_kept Letters b t l g d q c x = simp (not_β w t, l, g)
 
-  other_next : (f : Bool) (b : ℕ) → eqb w letters ≡ false → eqb w figures ≡ false → eqb w who ≡ false → eqb w query ≡ false → (t : Bool) → traffic_of w ≡ t → Judges f b (w ∷ ws)
+  other_next : (f : Case) (b : ℕ) → eqb w letters ≡ false → eqb w figures ≡ false → eqb w who ≡ false → eqb w query ≡ false → (t : Bool) → traffic_of w ≡ t → Judges f b (w ∷ ws)
   unfolding judged is_plain special
   other_next f b l g d q true t =
       rw (traffic_next w ws t, t, l, g, d, q)
       (ih f w ∙ ap (λ (k : Listening). all_traffic ws && neither (listened_in k ws)) (sym (plain_kept f b t l g d q (eqb w cross) refl)))
   other_next f b l g d q false t = rw (traffic_none w ws t, t, l, g, d, q)
 
-  judges_next : (f : Bool) (b : ℕ) → Kind w → Judges f b (w ∷ ws)
+  judges_next : (f : Case) (b : ℕ) → Kind w → Judges f b (w ∷ ws)
   unfolding judged is_plain special traffic_of meaning_of listened
-  judges_next true b (is_letters e) = rw (traffic_next w ws (ap traffic_of e), e) (ih false letters)
-  judges_next false b (is_letters e) = rw (traffic_next w ws (ap traffic_of e), e) (ih false letters)
-  judges_next true b (is_figures e) = rw (traffic_next w ws (ap traffic_of e), e) (ih true figures)
-  judges_next false b (is_figures e) = rw (traffic_next w ws (ap traffic_of e), e) (ih true figures)
-  judges_next true b (is_who e) =
+  judges_next Figures b (is_letters e) = rw (traffic_next w ws (ap traffic_of e), e, e) (ih Letters letters)
+  judges_next Letters b (is_letters e) = rw (traffic_next w ws (ap traffic_of e), e, e) (ih Letters letters)
+  judges_next Figures b (is_figures e) = rw (traffic_next w ws (ap traffic_of e), e, e) (ih Figures figures)
+  judges_next Letters b (is_figures e) = rw (traffic_next w ws (ap traffic_of e), e, e) (ih Figures figures)
+  judges_next Figures b (is_who e) =
       rw (traffic_next w ws (ap traffic_of e), e, spoilt (record { case = Figures; plus = false; over = false; asked = true }) ws refl)
       (sym (and_false (all_traffic ws)))
-  judges_next false b (is_who e) = rw (traffic_next w ws (ap traffic_of e), e) (ih false who)
-  judges_next true b (is_query e) = query_next b e (eqb b cross) refl
-  judges_next false b (is_query e) = rw (traffic_next w ws (ap traffic_of e), e) (ih false query)
+  judges_next Letters b (is_who e) = rw (traffic_next w ws (ap traffic_of e), e, e) (ih Letters who)
+  judges_next Figures b (is_query e) = query_next b e (eqb b cross) refl
+  judges_next Letters b (is_query e) = rw (traffic_next w ws (ap traffic_of e), e, e) (ih Letters query)
   judges_next f b (is_other l g d q) = other_next f b l g d q (traffic_of w) refl
 
-judges : (ws : List ℕ) (f : Bool) (b : ℕ) → Judges f b ws
+judges : (ws : List ℕ) (f : Case) (b : ℕ) → Judges f b ws
 unfolding judged first_not
-judges [] true b = refl
-judges [] false b = refl
+judges [] Figures b = refl
+judges [] Letters b = refl
 judges (w ∷ ws) f b = judges_next w ws (judges ws) f b (kind w)
 
 -- what passes from figures passes from letters, whatever stands before: up to the first shift nothing counts in letters, and behind it the two
 -- are one
-module _ (w : ℕ) (ws : List ℕ) (ih : (b b' : ℕ) → judged true b ws ≡ true → judged false b' ws ≡ true) where
-  letters_other : (b b' : ℕ) → eqb w letters ≡ false → eqb w figures ≡ false → eqb w who ≡ false → eqb w query ≡ false → (t : Bool) → is_plain w ≡ t → judged true b (w ∷ ws) ≡ true → judged false b' (w ∷ ws) ≡ true
+module _ (w : ℕ) (ws : List ℕ) (ih : (b b' : ℕ) → judged Figures b ws ≡ true → judged Letters b' ws ≡ true) where
+  letters_other : (b b' : ℕ) → eqb w letters ≡ false → eqb w figures ≡ false → eqb w who ≡ false → eqb w query ≡ false → (t : Bool) → is_plain w ≡ t → judged Figures b (w ∷ ws) ≡ true → judged Letters b' (w ∷ ws) ≡ true
   unfolding judged special
   letters_other b b' l g d q true t h = rw t (ih w w (rw t at h))
   letters_other b b' l g d q false t h = false_true (rw (t, l, g, d, q) at h)
 
-  letters_query : (b b' : ℕ) → w ≡ query → (t : Bool) → eqb b cross ≡ t → judged true b (w ∷ ws) ≡ true → judged false b' (w ∷ ws) ≡ true
+  letters_query : (b b' : ℕ) → w ≡ query → (t : Bool) → eqb b cross ≡ t → judged Figures b (w ∷ ws) ≡ true → judged Letters b' (w ∷ ws) ≡ true
   unfolding judged is_plain special traffic_of meaning_of
-  letters_query b b' e true t h = false_true (rw (e, t) at h)
-  letters_query b b' e false t h = rw e (ih query query (rw (e, t) at h))
+  letters_query b b' e true t h = false_true (simp (e, t) at h)
+  letters_query b b' e false t h = simp e (ih query query (simp (e, t) at h))
 
-  letters_next : (b b' : ℕ) → Kind w → judged true b (w ∷ ws) ≡ true → judged false b' (w ∷ ws) ≡ true
+  letters_next : (b b' : ℕ) → Kind w → judged Figures b (w ∷ ws) ≡ true → judged Letters b' (w ∷ ws) ≡ true
   unfolding judged is_plain special traffic_of meaning_of
   letters_next b b' (is_letters e) h = rw e (rw e at h)
   letters_next b b' (is_figures e) h = rw e (rw e at h)
@@ -164,7 +164,7 @@ module _ (w : ℕ) (ws : List ℕ) (ih : (b b' : ℕ) → judged true b ws ≡ t
   letters_next b b' (is_query e) h = letters_query b b' e (eqb b cross) refl h
   letters_next b b' (is_other l g d q) h = letters_other b b' l g d q (is_plain w) refl h
 
-from_letters : (ws : List ℕ) (b b' : ℕ) → judged true b ws ≡ true → judged false b' ws ≡ true
+from_letters : (ws : List ℕ) (b b' : ℕ) → judged Figures b ws ≡ true → judged Letters b' ws ≡ true
 unfolding judged
 from_letters [] b b' h = refl
 from_letters (w ∷ ws) b b' h = letters_next w ws (from_letters ws) b b' (kind w) h
@@ -175,11 +175,11 @@ both_ways true false true h = h refl
 both_ways true false false h = refl
 both_ways false l f h = refl
 
-pub passes_judged : (c : Code) → passes c ≡ (leb c.length 20 && judged true 0 (code_signals c))
+pub passes_judged : (c : Code) → passes c ≡ (leb c.length 20 && judged Figures 0 (code_signals c))
 unfolding passes holds_neither
 passes_judged c =
     let s = code_signals c in
     ap (λ (t : Bool). leb c.length 20 && t)
-    (both_ways (all_traffic s) (neither (listened_in (kept false 0) s)) (neither (listened_in (kept true 0) s))
-    (λ h. sym (judges s false 0) ∙ from_letters s 0 0 (judges s true 0 ∙ h))
-    ∙ sym (judges s true 0))
+    (both_ways (all_traffic s) (neither (listened_in (kept Letters 0) s)) (neither (listened_in (kept Figures 0) s))
+    (λ h. sym (judges s Letters 0) ∙ from_letters s 0 0 (judges s Figures 0 ∙ h))
+    ∙ sym (judges s Figures 0))

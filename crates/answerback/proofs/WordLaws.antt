@@ -1,74 +1,47 @@
--- The words of a code by index, as the loops of `next` and `judged` go over them, and what `passes` answers by the length. Assumes nothing.
-use mathlib.Core.Path.{◌≡◌, refl, ap, sym, ◌∙◌}
-use mathlib.Core.Bool.{Bool, true, false}
+-- The words of a code, as the loop of `judged` goes over them, and what `passes` answers by the length. Assumes nothing.
+use mathlib.Core.Path.{◌≡◌, refl, ap, ◌∙◌}
+use mathlib.Core.Bool.{true, false}
 use mathlib.Core.List.{List, [], ◌∷◌}
-use Prim.Native.Nat.{ℕ, zero, suc, ◌+◌, ◌-◌, ◌≤◌, ◌<◌}
+use Prim.Native.Nat.{ℕ, zero, suc, ◌+◌, ◌≤◌, ◌<◌}
 use native.Mathlib.Nat.{le_of_suc-le-suc, not-suc-le-zero}
 use native.Mathlib.Numerals.{add-one}
 use native.Mathlib.Omega.{arith}
-use lib.Dec.{eqb}
-use lib.ListN.{length, get_or, take, drop, set, length-take, length-set, drop_of_length-le}
-use lib.Seq.{drop-cons, get_or-take, get_or-set_same, take-set-le}
-use borrow.Author.Tests.{ne_eqb, le-leb, lt-leb}
-use Rattle.signals.specs.Meaning.{meaning_of, traffic_of}
+use lib.ListN.{length, get_or, take, drop, drop_of_length-le}
+use lib.Seq.{drop-cons}
+use borrow.Author.Tests.{le-leb, lt-leb}
+use Rattle.signals.specs.declared.Case.{Case}
+use Rattle.signals.specs.declared.Case.TheVariants.{Figures}
+use Rattle.std.specs.Prelude.{Some, None}
 use Rattle.mode_a.specs.declared.Code.{Code}
 use Rattle.mode_a.specs.Answerback.{firsts, words_of, code_signals, passes}
-use Rattle.answerback.specs.Judged.{is_plain, special, judged, before, Ended, Reached, Next}
-use Rattle.answerback.proofs.JudgedLaws.{false_true, passes_judged}
+use Rattle.answerback.specs.Judged.{is_plain, special, judged}
+use Rattle.answerback.proofs.JudgedLaws.{passes_judged}
 
--- the word at an index, where the n words are judged up to there
-module _ (ws : List ℕ) (n : ℕ) (e : Ended ws n) (r : ℕ) (h : r < n) where
-  word_at : drop r (take n ws) ≡ get_or ws r 0 ∷ drop (r + 1) (take n ws)
-  word_at =
-      let long : r < length (take n ws) = rw (length-take n ws) (omega (arith, e.room)) in
-      rw (add-one r, ← get_or-take n ws r 0 h) (drop-cons (take n ws) r 0 long)
+-- Judging the words has come to index i, in the case c and behind the word b.
+abbrev pub At : List ℕ → Case → ℕ → ℕ → Type 0
+At ws c b i = judged c b (drop i ws) ≡ judged Figures 0 ws
 
-  plain_at : (f : Bool) → is_plain (get_or ws r 0) ≡ true → judged f (before ws r) (drop r (take n ws)) ≡ judged f (before ws (r + 1)) (drop (r + 1) (take n ws))
+module _ (ws : List ℕ) (c : Case) (b i : ℕ) (a : At ws c b i) where
+  pub at_end : length ws ≤ i → true ≡ judged Figures 0 ws
   unfolding judged
-  plain_at f t = rw (word_at, t, add-one r)
+  at_end h = (rw (drop_of_length-le ws {i = i} h)) ∙ a
 
-  module _ (f : Bool) (k : ℕ) (t : is_plain (get_or ws r 0) ≡ false) (s : k ≡ special f (before ws r) (get_or ws r 0)) where
-    bad_at_lem : k ≡ 2 → judged f (before ws r) (drop r (take n ws)) ≡ false
+  module _ (h : i < length ws) where
+    word_at : drop i ws ≡ get_or ws i 0 ∷ drop (i + 1) ws
+    word_at = rw (add-one i) (drop-cons ws i 0 h)
+
+    pub at_plain : is_plain (get_or ws i 0) ≡ true → At ws c (get_or ws i 0) (i + 1)
     unfolding judged
-    bad_at_lem b = rw (word_at, t, ← s, b)
+    at_plain t = rw (word_at, t) at a
 
-    special_at : (k ≡ 2 → ⊥) → judged f (before ws r) (drop r (take n ws)) ≡ judged (eqb k 1) (before ws (r + 1)) (drop (r + 1) (take n ws))
-    unfolding judged
-    special_at b = rw (word_at, t, ← s, ne_eqb k 2 b, add-one r)
+    module _ (t : is_plain (get_or ws i 0) ≡ false) where
+      pub at_bad : special c b (get_or ws i 0) ≡ None → false ≡ judged Figures 0 ws
+      unfolding judged
+      at_bad s = rw (word_at, t, s) at a
 
-end_at : (ws : List ℕ) (n r : ℕ) (f : Bool) (b : ℕ) → n ≤ r → judged f b (drop r (take n ws)) ≡ true
-unfolding judged
-end_at ws n r f b h =
-    let past : length (take n ws) ≤ r = rw (length-take n ws) (omega arith) in rw (drop_of_length-le (take n ws) {i = r} past)
-
--- the words from an index on, where the last that was reached is plain
-pub reached_start : (ws : List ℕ) (n i : ℕ) → i ≤ n → Reached ws n i i
-reached_start ws n i h = record { from = omega arith; within = h; same = λ f. refl }
-
-pub reached_next : (ws : List ℕ) (n i r : ℕ) → Ended ws n → Reached ws n i r → is_plain (get_or ws r 0) ≡ true → Reached ws n i (r + 1)
-reached_next ws n i r e a t =
-    let other : r ≡ n → ⊥ = λ q. let z : ◌≡◌ {A = ℕ} 0 1 = false_true (sym e.ends ∙ (rw q at t)) in omega arith in
-    let less : r < n = omega (arith, a.within, other) in
-    record { from = omega (arith, a.from); within = omega arith; same = λ f. a.same f ∙ plain_at ws n e r less f t }
-
-pub before_at : (ws : List ℕ) (i : ℕ) → (i ≡ 0 → ⊥) → get_or ws (i - 1) 0 ≡ before ws i
-before_at ws zero h = absurd (h refl)
-before_at ws (suc i) h = ap (λ (k : ℕ). get_or ws k 0) (omega arith)
-
--- Judging the n words, which has come to i in the case f and from there to r: it ends there with true, ends with false, or goes on.
-abbrev pub At : List ℕ → ℕ → Bool → ℕ → Type 0
-At ws n f i = judged f (before ws i) (drop i (take n ws)) ≡ judged true 0 (take n ws)
-
-module _ (ws : List ℕ) (n : ℕ) (f : Bool) (i r : ℕ) (a : At ws n f i) (g : Next ws n i r) where
-  pub ends_true : n ≤ r → true ≡ judged true 0 (take n ws)
-  ends_true h = sym (end_at ws n r f (before ws r) h) ∙ sym (g.reached.same f) ∙ a
-
-  module _ (e : Ended ws n) (h : r < n) (k b : ℕ) (s : k ≡ special f b (get_or ws r 0)) (p : b ≡ before ws r) where
-    pub ends_false : k ≡ 2 → false ≡ judged true 0 (take n ws)
-    ends_false t = sym (bad_at_lem ws n e r h f k g.here (rw p at s) t) ∙ sym (g.reached.same f) ∙ a
-
-    pub goes_on : (k ≡ 2 → ⊥) → At ws n (eqb k 1) (r + 1)
-    goes_on t = sym (special_at ws n e r h f k g.here (rw p at s) t) ∙ sym (g.reached.same f) ∙ a
+      pub at_special : (d : Case) → special c b (get_or ws i 0) ≡ Some d → At ws d (get_or ws i 0) (i + 1)
+      unfolding judged
+      at_special d s = rw (word_at, t, s) at a
 
 -- the first n of as many words as there are
 firsts_take : (n : ℕ) (ws : List ℕ) → n ≤ length ws → firsts n ws ≡ take n ws
@@ -85,13 +58,6 @@ module _ (c : Code) where
   pub passes_long : 20 < c.length → false ≡ passes c
   passes_long h = rw (passes_judged c, lt-leb c.length 20 h)
 
-  module _ (h : c.length ≤ 20) where
-    pub passes_ended : Ended (set (words_of c) c.length 0) c.length
-    unfolding is_plain traffic_of meaning_of
-    passes_ended =
-        record { small = h; room = rw length-set (omega arith); ends = rw (get_or-set_same (words_of c) c.length 0 0 (omega arith)) }
-
-    pub passes_short : judged true 0 (take c.length (set (words_of c) c.length 0)) ≡ passes c
-    unfolding code_signals
-    passes_short =
-        rw (passes_judged c, le-leb c.length 20 h, take-set-le c.length (words_of c) c.length 0 (omega arith), firsts_take c.length (words_of c) (omega arith))
+  pub passes_short : c.length ≤ 20 → judged Figures 0 (take c.length (words_of c)) ≡ passes c
+  unfolding code_signals
+  passes_short h = rw (passes_judged c, le-leb c.length 20 h, firsts_take c.length (words_of c) (omega arith))

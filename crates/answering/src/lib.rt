@@ -16,6 +16,7 @@ use mode_a::{Doing, Gathered, Own, Part, Place, Stage, Words};
 
 // Which identification block a burst is, if any: X α X, α X X or X X X, each X of table 3a. All three end with a letter, and no burst is
 // two of them, since α is no letter.
+#[tactic(auto, unfolding(mode_a::specs::Identification::told_in))]
 pub fn told_in(b: Words) -> Part
     ensures { told_as result b ≡ told_in b }
 {
@@ -49,31 +50,14 @@ pub enum Due {
 pub fn due_at(stage: Stage, block: Part) -> Due
     ensures { IsDue stage block result }
 {
-    match stage {
-        Stage::One => match block {
-            Part::None => Due::Neither,
-            Part::One => Due::Awaited,
-            Part::Two => Due::Neither,
-            Part::Three => Due::Neither, // nothing is gathered yet
-        },
-        Stage::Two => match block {
-            Part::None => Due::Neither,
-            Part::One => Due::Before,
-            Part::Two => Due::Awaited,
-            Part::Three => Due::Neither,
-        },
-        Stage::Three => match block {
-            Part::None => Due::Neither,
-            Part::One => Due::Neither,
-            Part::Two => Due::Before,
-            Part::Three => Due::Awaited,
-        },
-        Stage::Four => match block {
-            Part::None => Due::Neither,
-            Part::One => Due::Neither,
-            Part::Two => Due::Neither,
-            Part::Three => Due::Before,
-        },
+    match (stage, block) {
+        (Stage::One, Part::One) => Due::Awaited, // nothing is gathered yet, so that no block can be sent again
+        (Stage::Two, Part::One) => Due::Before,
+        (Stage::Two, Part::Two) => Due::Awaited,
+        (Stage::Three, Part::Two) => Due::Before,
+        (Stage::Three, Part::Three) => Due::Awaited,
+        (Stage::Four, Part::Three) => Due::Before,
+        _ => Due::Neither,
     }
 }
 
@@ -119,21 +103,21 @@ fn asks(stage: Stage) -> u8
 {
     match stage {
         Stage::One => signals::CS4,
-        Stage::Two => signals::RQ,
-        Stage::Three => signals::RQ,
-        Stage::Four => signals::RQ,
+        _ => signals::RQ,
     }
 }
 
 // The block that led to this stage, sent again: the check-sum once more where its letters are those gathered (3.6.12), else RQ until two in a
 // row are the same (3.6.16).
+#[tactic(auto, unfolding(identity::specs::Sums::same_seven))]
 fn confirms(own: Seven, got: Seven, now: Seven, block: Part) -> u8
     ensures { result ≡ (if same_seven got now then sum_of block own else rq) }
 {
-    if got.same(now) {
-        return sum_of(block, own);
+    if got == now {
+        sum_of(block, own)
+    } else {
+        signals::RQ
     }
-    signals::RQ
 }
 
 // What is done with a burst by the block that it is, if any. Both callers hand over the burst's words as a burst of their own: handed on as it
@@ -141,12 +125,9 @@ fn confirms(own: Seven, got: Seven, now: Seven, block: Part) -> u8
 fn hear(own: Seven, g: Gathered, b: Words) -> Doing
     ensures { result ≡ hearing own g.got g.stage (told_in b) }
 {
-    let got = g.got;
-    let stage = g.stage;
     let block = told_in(b);
-    let due = due_at(stage, block);
-    let now = with_block(got, block, b);
-    match due {
+    let now = with_block(g.got, block, b);
+    match due_at(g.stage, block) {
         Due::Awaited => Doing::Goes(
             Place::Answering(Gathered {
                 stage: behind(block),
@@ -155,13 +136,10 @@ fn hear(own: Seven, g: Gathered, b: Words) -> Doing
             Words(sum_of(block, own), 0, 0),
         ),
         Due::Before => Doing::Again(
-            Place::Answering(Gathered {
-                stage: stage,
-                got: now,
-            }),
-            Words(confirms(own, got, now, block), 0, 0),
+            Place::Answering(Gathered { got: now, ..g }),
+            Words(confirms(own, g.got, now, block), 0, 0),
         ),
-        Due::Neither => Doing::Again(Place::Answering(g), Words(asks(stage), 0, 0)),
+        Due::Neither => Doing::Again(Place::Answering(g), Words(asks(g.stage), 0, 0)),
     }
 }
 
@@ -169,9 +147,8 @@ fn hear(own: Seven, g: Gathered, b: Words) -> Doing
 pub fn gathered(place: Place, own: Own, burst: Words) -> Doing
     ensures { result ≡ hearing own.seven (gathered_in place).got (gathered_in place).stage (told_in burst) }
 {
-    let seven = own.seven;
     hear(
-        seven,
+        own.seven,
         carried::gathered_in(place),
         Words(burst.0, burst.1, burst.2),
     )
@@ -181,12 +158,10 @@ pub fn gathered(place: Place, own: Own, burst: Words) -> Doing
 pub fn met_if_last(place: Place, own: Own, burst: Words) -> Doing
     ensures { result ≡ (if is_last (gathered_in place).stage then Meets (gathered_in place).got else hearing own.seven (gathered_in place).got (gathered_in place).stage (told_in burst)) }
 {
-    let seven = own.seven;
     let g = carried::gathered_in(place);
-    let stage = g.stage;
-    if stage.is_last() {
-        let got = g.got;
-        return Doing::Meets(got);
+    if g.stage.is_last() {
+        Doing::Meets(g.got)
+    } else {
+        hear(own.seven, g, Words(burst.0, burst.1, burst.2))
     }
-    hear(seven, g, Words(burst.0, burst.1, burst.2))
 }

@@ -9,7 +9,7 @@ use lib.Dec.{ltb}
 use lib.ListN.{length, take, drop, length-append, length-drop}
 use lib.Seq.{take_at, drop_at}
 use borrow.Author.Tests.{ltb-false}
-use Rattle.std.specs.Prelude.{if◌then◌else◌}
+use Rattle.std.specs.Prelude.{if◌then◌else◌, Ok}
 use Rattle.laws.specs.Room.{over}
 use Rattle.signals.specs.declared.Case.{Case}
 use Rattle.signals.specs.declared.Case.TheVariants.{Letters}
@@ -21,7 +21,6 @@ use Rattle.mode_a.specs.declared.Role.{Role}
 use Rattle.mode_a.specs.declared.Role.TheVariants.{Master, Slave}
 use Rattle.runs.specs.Circuit.{signals_in}
 use Rattle.circuit.specs.Demand.{Beginning, Carried, Demand3}
-use Rattle.entries.specs.declared.Passed.{Passed}
 use Rattle.entries.specs.Entries.{same_role, by_role, record_of}
 use Rattle.entries.specs.Passage.{Passage, circuit_of, Outcome, told, fault, signals_of, text_of}
 use Rattle.entries.specs.Passing.{Texts, Counts, outcome_from, told_in, passing_from, said_passed, counted, master_left, slave_left}
@@ -81,7 +80,7 @@ of_the_call bytes m s nm ns m' s' (a, b, c) = by_outcome (outcome_from bytes 0) 
   where
     by_rooms : (p : Passage) → outcome_from bytes 0 ≡ told p → (t u : Bool) → ltb (length m) (length (text_of p Master)) ≡ t → ltb (length s) (length (text_of p Slave)) ≡ u →
         let x : Answer Texts = if t then refused 2 (length (text_of p Master)) else if u then refused 2 (length (text_of p Slave)) else answered (record { master = text_of p Master; slave = text_of p Slave }) in
-        said_passed (Passed.Printed nm ns) ≡ counted x → m' ≡ master_left x m → s' ≡ slave_left x s → PrintedAshore bytes m s nm ns m' s'
+        said_passed (Ok (record { master = nm; slave = ns })) ≡ counted x → m' ≡ master_left x m → s' ≡ slave_left x s → PrintedAshore bytes m s nm ns m' s'
     by_rooms p o true u f g a b c = let z : ◌≡◌ {A = ℕ} 0 1 = cc in absurd (omega arith)
     by_rooms p o false true f g a b c = let z : ◌≡◌ {A = ℕ} 0 1 = cc in absurd (omega arith)
     by_rooms p o false false f g a b c =
@@ -99,6 +98,6 @@ of_the_call bytes m s nm ns m' s' (a, b, c) = by_outcome (outcome_from bytes 0) 
         at d i j k l Slave = station_printed p d Slave ns s s' j l c
 
     by_outcome : (o : Outcome) → outcome_from bytes 0 ≡ o → let x = told_in (length m) (length s) o in
-        said_passed (Passed.Printed nm ns) ≡ counted x → m' ≡ master_left x m → s' ≡ slave_left x s → PrintedAshore bytes m s nm ns m' s'
+        said_passed (Ok (record { master = nm; slave = ns })) ≡ counted x → m' ≡ master_left x m → s' ≡ slave_left x s → PrintedAshore bytes m s nm ns m' s'
     by_outcome (told p) o a b c = by_rooms p o (ltb (length m) (length (text_of p Master))) (ltb (length s) (length (text_of p Slave))) refl refl a b c
     by_outcome (fault n at) o a b c = let z : ◌≡◌ {A = ℕ} 0 1 = cc in absurd (omega arith)

@@ -5,7 +5,7 @@
 -- What is easily got wrong: the damage of a record is a word heard as 0, on silence too, which is none of the 35; no entry offers a call;
 -- and a burst that a station hears when it is Lost or at Stand-by is a step all the same.
 -- Assumes nothing.
-use Rattle.std.specs.Prelude.{◌≡◌, true, List, [], ◌∷◌, ◌++◌, ℕ, ◌*◌, ◌≤◌, length, take, drop, if◌then◌else◌}
+use Rattle.std.specs.Prelude.{◌≡◌, true, List, [], ◌∷◌, ◌++◌, ℕ, ◌*◌, ◌≤◌, length, take, drop, if◌then◌else◌, Ok}
 use Rattle.signals.specs.declared.Case.TheVariants.{Letters}
 use Rattle.text.specs.Printing.{printed}
 use Rattle.mode_a.specs.declared.Role.{Role}
@@ -15,7 +15,6 @@ use Rattle.runs.specs.Circuit.{Run, signals_in, Direction, Circuit, fresh, said,
 use Rattle.circuit.specs.Demand.{Beginning, Demand3}
 use Rattle.entries.specs.declared.Entry.{Entry}
 use Rattle.entries.specs.declared.Entry.TheVariants.{Burst, Text, Over, End}
-use Rattle.entries.specs.declared.Passed.{Passed}
 use Rattle.entries.specs.Entries.{other_role, same_role, by_role, written_all, record_of}
 use Rattle.entries.specs.Passage.{Passage, begins, circuit_of, hearing, event_of, tells, fault_of, told, text_of}
 use Rattle.entries.specs.Passing.{outcome_from, Passes}
@@ -109,5 +108,5 @@ pub record PrintedAshore (bytes m s : List ℕ) (nm ns : ℕ) (m' s' : List ℕ)
 
 abbrev pub OfTheCall : Type 0
 OfTheCall =
-    (bytes m s : List ℕ) (nm ns : ℕ) (m' s' : List ℕ) → Passes bytes m s (Passed.Printed nm ns) m' s' →
+    (bytes m s : List ℕ) (nm ns : ℕ) (m' s' : List ℕ) → Passes bytes m s (Ok (record { master = nm; slave = ns })) m' s' →
     PrintedAshore bytes m s nm ns m' s'

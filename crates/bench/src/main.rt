@@ -2,19 +2,19 @@
 #![tactic(auto)]
 
 ghost use Rattle.std.specs.Prelude.{◌<◌};
-ghost use Rattle.filters.specs.Counts.{IsPrefixLen};
 
-use entries::Passed;
+use entries::{PassError, Printed};
 use filters::Stream;
 use identity::Seven;
 use mode_a::{
-    Identity, Offer, Owed, Own, Peer, Place, Reply, Role, Station, Stepped, Stood, Words,
+    BadIdentity, Identity, Offer, Owed, Peer, Place, Refusal, Refused, Reply, Role, Station, Words,
 };
-use mode_b::{Hearing, Phasing, Received, Receiver, Slot};
-use reasons::{Reason, Starred, Why};
+use mode_b::{BadReceiver, Heard, Hearing, Phasing, Receiver, SlotError};
+use numbers::Line;
+use reasons::{Reason, Star, StarError};
 use signals::Case;
 use std::process::ExitCode;
-use text::{Encoded, Printed};
+use text::{EncodeError, PrintError, Written};
 
 // Every character that has a signal, small letters apart, and every traffic signal, both ascending.
 const ALPHABET: [u8; 52] = [
@@ -35,9 +35,10 @@ fn next(g: u64) -> u64 {
 
 fn drawn(g: u64, limit: u64) -> usize {
     if limit == 0 {
-        return 0;
+        0
+    } else {
+        ((g / 65536) % limit) as usize
     }
-    ((g / 65536) % limit) as usize
 }
 
 // The check-sum with one value more.
@@ -51,126 +52,59 @@ fn mix_byte(sum: u64, byte: u8) -> u64 {
 
 // The numbers of the input.
 #[derive(Clone, Copy)]
-pub struct Asked {
-    pub call: u64,
-    pub times: u64,
-    pub length: usize,
+struct Asked {
+    call: u64,
+    times: u64,
+    length: usize,
 }
 
-fn is_digit(byte: u8) -> bool {
-    if byte < 48 {
-        return false;
+// The number that the bytes begin with, the largest where it is over that, the byte behind it, and what stands behind that byte.
+fn number_in(bytes: &[u8]) -> Option<(u64, u8, &[u8])> {
+    let digits = bytes.iter().position(|byte| !byte.is_ascii_digit())?;
+    if digits == 0 {
+        return None;
     }
-    byte < 58
-}
-
-// The number that starts at a place, the largest where it is over that; the place behind it and one byte more; and that byte, or
-// 0 where no number starts.
-#[derive(Clone, Copy)]
-pub struct Parsed {
-    pub value: u64,
-    pub next: usize,
-    pub behind: u8,
-}
-
-fn grown(value: u64, digit: u8) -> u64 {
-    if value < 1000000000000000000 {
-        return value * 10 + (digit % 16) as u64;
-    }
-    u64::MAX
-}
-
-fn behind(begun: bool, byte: u8) -> u8 {
-    if begun {
-        return byte;
-    }
-    0
-}
-
-fn number_from(bytes: &[u8], from: usize) -> Parsed {
     let mut value: u64 = 0;
-    let mut i = from;
-    while i < bytes.len() {
-        if !is_digit(bytes[i]) {
-            return Parsed {
-                value,
-                next: i + 1,
-                behind: behind(from < i, bytes[i]),
-            };
-        }
-        value = grown(value, bytes[i]);
-        i += 1;
+    for &byte in &bytes[..digits] {
+        value = value.saturating_mul(10).saturating_add((byte % 16) as u64);
     }
-    Parsed {
-        value,
-        next: i,
-        behind: 0,
-    }
+    Some((value, bytes[digits], &bytes[digits + 1..]))
 }
 
 fn is_white(byte: u8) -> bool {
-    match byte {
-        9 | 10 | 13 | 32 => true,
-        _ => false,
-    }
+    matches!(byte, 9 | 10 | 13 | 32)
 }
 
-// Whether nothing but white space stands from the place on.
-fn is_blank(bytes: &[u8], from: usize) -> bool {
-    let mut i = from;
-    while i < bytes.len() {
-        if !is_white(bytes[i]) {
-            return false;
-        }
-        i += 1;
+// What a line asks for that ends in white space: three numbers, one space between.
+fn asked_in(line: &[u8]) -> Option<Asked> {
+    let (call, behind_call, rest) = number_in(line)?;
+    let (times, behind_times, rest) = number_in(rest)?;
+    let (length, behind_length, rest) = number_in(rest)?;
+    if behind_call != 32 || behind_times != 32 || !is_white(behind_length) {
+        return None;
     }
-    true
-}
-
-fn may_run(call: u64, length: u64) -> bool {
-    if 9 < call {
-        return false;
+    if !rest.iter().all(|byte| is_white(*byte)) || call == 0 || 9 < call || 8192 < length {
+        return None;
     }
-    length <= 8192
-}
-
-// What a line asks for that ends in white space; call 0 where it is no such line.
-fn asked_in(line: &[u8]) -> Asked {
-    let call = number_from(line, 0);
-    let times = number_from(line, call.next);
-    let length = number_from(line, times.next);
-    if call.behind == 32 {
-        if times.behind == 32 {
-            if is_white(length.behind) {
-                if is_blank(line, length.next) {
-                    if may_run(call.value, length.value) {
-                        return Asked {
-                            call: call.value,
-                            times: times.value,
-                            length: length.value as usize,
-                        };
-                    }
-                }
-            }
-        }
-    }
-    Asked {
-        call: 0,
-        times: 0,
-        length: 0,
-    }
+    Some(Asked {
+        call,
+        times,
+        length: length as usize,
+    })
 }
 
 // What a room is filled with: any bytes, characters, traffic signals with an error mark once in a while, traffic signals alone,
-// the plan of 4,096 steps, or the record of a passage.
-#[derive(Clone, Copy)]
-pub enum Filling {
-    Bytes,
-    Characters,
-    Words,
-    Traffic,
-    Plan,
-    Record,
+// the plan of 4,096 steps, or the record of a passage. Each makes a byte of the number drawn and of its place.
+fn any_byte(g: u64, _: usize) -> u8 {
+    (drawn(g, 256) % 256) as u8
+}
+
+fn character(g: u64, _: usize) -> u8 {
+    ALPHABET[drawn(g, 52) % 52]
+}
+
+fn traffic(g: u64, _: usize) -> u8 {
+    TRAFFIC[drawn(g, 32) % 32]
 }
 
 // The plan has five bytes a step: which word of the burst on the way is damaged (none where it is 3 or more), a kind of offer, and
@@ -183,21 +117,14 @@ fn planned(g: u64, j: usize) -> u8 {
     }
 }
 
-fn word_drawn(g: u64) -> u8 {
-    let at = drawn(g, 33);
-    if at < 32 {
-        return TRAFFIC[at];
-    }
-    255
+fn word_drawn(g: u64, _: usize) -> u8 {
+    TRAFFIC.get(drawn(g, 33)).copied().unwrap_or(255)
 }
 
 // The record has halves of 61 bytes, the master's and the slave's in turn: fifteen groups of four bytes, and then the station that
 // has the turn offers over. Every fifth group is a text of that station, the others are a burst of the slave and one of the master.
 fn of_turn(j: usize, master: u8, slave: u8) -> u8 {
-    if (j / 61) % 2 == 0 {
-        return master;
-    }
-    slave
+    if (j / 61) % 2 == 0 { master } else { slave }
 }
 
 // No text has D or + in it, so that it asks for nothing.
@@ -212,16 +139,11 @@ fn text_byte(g: u64, j: usize, place: usize) -> u8 {
 // Damaged are some of the bursts behind the second and the third text: of four exchanges the three that are left see to it that the
 // text is taken. Behind the first text none is, since the turn takes all four.
 fn damage_drawn(g: u64, group: usize) -> u8 {
-    if group % 5 != 1 {
-        return 0;
+    if group % 5 == 1 && group != 1 && drawn(g, 16) < 8 {
+        (drawn(g, 16) % 8) as u8
+    } else {
+        0
     }
-    if group == 1 {
-        return 0;
-    }
-    if drawn(g, 16) < 8 {
-        return (drawn(g, 16) % 8) as u8;
-    }
-    0
 }
 
 fn burst_byte(g: u64, place: usize) -> u8 {
@@ -244,54 +166,36 @@ fn recorded(g: u64, j: usize) -> u8 {
     burst_byte(g, place)
 }
 
-fn made(filling: Filling, g: u64, j: usize) -> u8 {
-    match filling {
-        Filling::Bytes => (drawn(g, 256) % 256) as u8,
-        Filling::Characters => ALPHABET[drawn(g, 52) % 52],
-        Filling::Words => word_drawn(g),
-        Filling::Traffic => TRAFFIC[drawn(g, 32) % 32],
-        Filling::Plan => planned(g, j),
-        Filling::Record => recorded(g, j),
-    }
-}
-
 // Fills the room, and answers the last number drawn.
-fn fill(room: &mut [u8], filling: Filling) -> u64 {
+fn fill<F: Fn(u64, usize) -> u8>(room: &mut [u8], made: F) -> u64
+    requires { F.IsAlwaysCallable made }
+{
     let mut g: u64 = 625;
-    let mut j = 0;
-    while j < room.len() {
+    for (j, byte) in room.iter_mut().enumerate() {
         g = next(g);
-        numbers::put(room, j, made(filling, g, j));
-        j += 1;
+        *byte = made(g, j);
     }
     g
 }
 
-// The length, as far as the bytes go.
-fn first(bytes: &[u8], length: usize) -> usize
-    ensures { IsPrefixLen result bytes.now }
-{
-    if length < bytes.len() {
-        return length;
-    }
-    bytes.len()
+// The first bytes, as many as there are of so many.
+fn first(bytes: &[u8], length: usize) -> &[u8] {
+    &bytes[..length.min(bytes.len())]
 }
 
 // --- meaning ---
 
 fn meaning_often(times: u64, input: &[u8; 4096]) -> u64 {
     let mut sum: u64 = 0;
-    let mut i: u64 = 0;
-    while i < times {
+    for i in 0..times {
         sum = mix_byte(sum, signals::meaning(input[(i % 4096) as usize]));
-        i += 1;
     }
     sum
 }
 
 fn run_meaning(times: u64) -> u64 {
     let mut input = [0u8; 4096];
-    fill(&mut input, Filling::Bytes);
+    fill(&mut input, any_byte);
     meaning_often(times, &input)
 }
 
@@ -306,52 +210,53 @@ fn case_no(case: Case) -> u64 {
 
 fn case_of(i: u64) -> Case {
     if i % 2 == 0 {
-        return Case::Letters;
+        Case::Letters
+    } else {
+        Case::Figures
     }
-    Case::Figures
+}
+
+// The last byte of what was written, if any was.
+fn mix_last(sum: u64, count: usize, room: &[u8]) -> u64 {
+    if 0 < count && count <= room.len() {
+        mix_byte(sum, room[count - 1])
+    } else {
+        sum
+    }
 }
 
 // What was written: how much, the case at the end, the last byte of it.
 fn mix_written(sum: u64, count: usize, ends: Case, room: &[u8]) -> u64 {
-    let told = mix(mix(sum, count as u64), case_no(ends));
-    if count == 0 {
-        return told;
-    }
-    if room.len() < count {
-        return told;
-    }
-    mix_byte(told, room[count - 1])
+    mix_last(mix(mix(sum, count as u64), case_no(ends)), count, room)
 }
 
 fn mix_refusal(sum: u64, number: u64, value: u64) -> u64 {
     mix(mix(sum, number), value)
 }
 
-fn mix_encoded(sum: u64, answer: Encoded, room: &[u8]) -> u64 {
+fn mix_encoded(sum: u64, answer: Result<Written, EncodeError>, room: &[u8]) -> u64 {
     match answer {
-        Encoded::Written { count, ends } => mix_written(sum, count, ends, room),
-        Encoded::TooLong => mix_refusal(sum, 5, 4096),
-        Encoded::NoSignal(index) => mix_refusal(sum, 1, index as u64),
-        Encoded::NoRoom(needed) => mix_refusal(sum, 2, needed as u64),
+        Ok(Written { count, ends }) => mix_written(sum, count, ends, room),
+        Err(EncodeError::TooLong) => mix_refusal(sum, 5, 4096),
+        Err(EncodeError::NoSignal(index)) => mix_refusal(sum, 1, index as u64),
+        Err(EncodeError::NoRoom(needed)) => mix_refusal(sum, 2, needed as u64),
     }
 }
 
-fn mix_printed(sum: u64, answer: Printed, room: &[u8]) -> u64 {
+fn mix_printed(sum: u64, answer: Result<Written, PrintError>, room: &[u8]) -> u64 {
     match answer {
-        Printed::Written { count, ends } => mix_written(sum, count, ends, room),
-        Printed::TooLong => mix_refusal(sum, 7, 8192),
-        Printed::BadWord(index) => mix_refusal(sum, 3, index as u64),
-        Printed::NoRoom(needed) => mix_refusal(sum, 2, needed as u64),
+        Ok(Written { count, ends }) => mix_written(sum, count, ends, room),
+        Err(PrintError::TooLong) => mix_refusal(sum, 7, 8192),
+        Err(PrintError::BadWord(index)) => mix_refusal(sum, 3, index as u64),
+        Err(PrintError::NoRoom(needed)) => mix_refusal(sum, 2, needed as u64),
     }
 }
 
 fn encode_often(times: u64, text: &[u8], room: &mut [u8], from: u64) -> u64 {
     let mut sum = from;
-    let mut i: u64 = 0;
-    while i < times {
+    for i in 0..times {
         let answer = encoding::encode(text, case_of(i), room);
         sum = mix_encoded(sum, answer, room);
-        i += 1;
     }
     sum
 }
@@ -369,18 +274,15 @@ fn encode_refused() -> u64 {
 fn run_encode(times: u64, length: usize) -> u64 {
     let mut text = [0u8; 8192];
     let mut room = [0u8; 8192];
-    fill(&mut text, Filling::Characters);
-    let count = first(&text, length);
-    encode_often(times, &text[..count], &mut room, encode_refused())
+    fill(&mut text, character);
+    encode_often(times, first(&text, length), &mut room, encode_refused())
 }
 
 fn print_often(times: u64, words: &[u8], room: &mut [u8], from: u64) -> u64 {
     let mut sum = from;
-    let mut i: u64 = 0;
-    while i < times {
+    for i in 0..times {
         let answer = printing::print(words, case_of(i), room);
         sum = mix_printed(sum, answer, room);
-        i += 1;
     }
     sum
 }
@@ -398,26 +300,11 @@ fn print_refused() -> u64 {
 fn run_print(times: u64, length: usize) -> u64 {
     let mut words = [0u8; 8192];
     let mut room = [0u8; 8192];
-    fill(&mut words, Filling::Words);
-    let count = first(&words, length);
-    print_often(times, &words[..count], &mut room, print_refused())
+    fill(&mut words, word_drawn);
+    print_often(times, first(&words, length), &mut room, print_refused())
 }
 
 // --- step ---
-
-// What is offered at each step, by its place in the plan.
-fn offer_of(j: usize, kind: u8, words: Words) -> Offer {
-    if 240 <= j % 256 {
-        return Offer::End;
-    }
-    if kind == 0 {
-        return Offer::Over;
-    }
-    if kind < 6 {
-        return Offer::Text(words);
-    }
-    Offer::Nothing
-}
 
 fn damaged(burst: Words, damage: u8) -> Words {
     match damage {
@@ -435,35 +322,30 @@ fn packed(words: Words) -> u64
 }
 
 fn mix_reply(sum: u64, reply: Reply) -> u64 {
-    let station = reply.station;
-    let place = station.place;
-    let sent = reply.sent;
-    let printed = reply.printed;
-    let no = fields::place_no(place);
-    let told = mix(sum, packed(sent));
-    if reply.taken {
-        return mix(told, packed(printed) + 16777216 * (2 * no + 1));
-    }
-    mix(told, packed(printed) + 16777216 * (2 * no))
+    let no = 2 * table::row_no(reply.station.place) as u64 + u64::from(reply.taken);
+    let told = mix(sum, packed(reply.sent));
+    mix(told, packed(reply.printed) + 16777216 * no)
 }
 
-fn mix_refused(sum: u64, stepped: Stepped) -> u64 {
+fn mix_told(sum: u64, refusal: Refusal) -> u64 {
+    let (number, value) = refusal.told();
+    mix_refusal(sum, number as u64, value as u64)
+}
+
+fn mix_refused(sum: u64, stepped: Result<Reply, Refused>) -> u64 {
     match stepped {
-        Stepped::Done(_) => sum,
-        Stepped::BadStation(_) => mix_refusal(sum, 4, 0),
-        Stepped::BadCode(_) => mix_refusal(sum, 9, 0),
-        Stepped::BadWord(index, _) => mix_refusal(sum, 3, index as u64),
-        Stepped::BadCall(index, _) => mix_refusal(sum, 8, index as u64),
+        Ok(_) => sum,
+        Err(refused) => mix_told(sum, refused.why),
     }
 }
 
 // Two stations, the burst on the way, and the check-sum.
 #[derive(Clone, Copy)]
-pub struct Pair {
-    pub hearer: Station,
-    pub sender: Station,
-    pub burst: Words,
-    pub sum: u64,
+struct Pair {
+    hearer: Station,
+    sender: Station,
+    burst: Words,
+    sum: u64,
 }
 
 fn fresh_pair(sum: u64) -> Pair {
@@ -471,39 +353,74 @@ fn fresh_pair(sum: u64) -> Pair {
         hearer: Station::fresh_master(),
         sender: Station::fresh_slave(),
         burst: Words(signals::CS1, 0, 0),
-        sum: sum,
+        sum,
     }
 }
 
-fn exchanged(pair: Pair, damage: u8, offer: Offer) -> Pair {
-    let hearer = pair.hearer;
-    let sender = pair.sender;
-    let burst = pair.burst;
-    let reply = fields::reply_of(station::step(hearer, damaged(burst, damage), offer));
-    let after = reply.station;
-    let sent = reply.sent;
-    Pair {
-        hearer: sender,
-        sender: after,
-        burst: sent,
-        sum: mix_reply(pair.sum, reply),
+impl Pair {
+    // The hearer answers, and the two change places.
+    fn exchange(&mut self, damage: u8, offer: Offer) {
+        let reply = fields::reply_of(station::step(
+            self.hearer,
+            damaged(self.burst, damage),
+            offer,
+        ));
+        self.hearer = self.sender;
+        self.sender = reply.station;
+        self.burst = reply.sent;
+        self.sum = mix_reply(self.sum, reply);
+    }
+
+    // Asks for the reason of the answer that comes next.
+    fn explain(&mut self, damage: u8, offer: Offer) {
+        let why = help_desk::why(self.hearer, damaged(self.burst, damage), offer);
+        self.sum = mix_why(self.sum, why);
     }
 }
 
-fn step_often(times: u64, steps: &[u8], from: u64) -> u64 {
-    let mut pair = fresh_pair(from);
-    let mut i: u64 = 0;
-    while i < times {
+// A step of the plan: its place, which word of the burst on the way is damaged, a kind of offer, and the words of a text.
+#[derive(Clone, Copy)]
+struct Step {
+    j: usize,
+    damage: u8,
+    kind: u8,
+    words: Words,
+}
+
+// What is offered at each step, by its place in the plan.
+fn offer_of(step: Step) -> Offer {
+    match step.kind {
+        _ if 240 <= step.j % 256 => Offer::End,
+        0 => Offer::Over,
+        1..=5 => Offer::Text(step.words),
+        _ => Offer::Nothing,
+    }
+}
+
+// The two are made anew at each of 256 steps.
+fn renew(pair: &mut Pair, step: Step) {
+    if step.j % 256 == 0 {
+        *pair = fresh_pair(pair.sum);
+    }
+}
+
+// The steps of the plan, over and over.
+fn steps_often<F: Fn(&mut Pair, Step)>(times: u64, first: Pair, turn: F) -> u64
+    requires { F.IsAlwaysCallable turn }
+{
+    let mut steps = [0u8; 20480];
+    fill(&mut steps, planned);
+    let mut pair = first;
+    for i in 0..times {
         let j = (i % 4096) as usize;
-        if j % 256 == 0 {
-            pair = fresh_pair(pair.sum);
-        }
         let at = 5 * j;
-        if at + 4 < steps.len() {
-            let words = Words(steps[at + 2], steps[at + 3], steps[at + 4]);
-            pair = exchanged(pair, steps[at], offer_of(j, steps[at + 1], words));
-        }
-        i += 1;
+        let step = Step {
+            j,
+            damage: steps[at],
+            kind: steps[at + 1],
+            words: Words(steps[at + 2], steps[at + 3], steps[at + 4]),
+        };
+        turn(&mut pair, step);
     }
     pair.sum
 }
@@ -511,35 +428,23 @@ fn step_often(times: u64, steps: &[u8], from: u64) -> u64 {
 // The count is over 31.
 fn unsound() -> Station {
     Station {
-        role: Role::Master,
-        place: Place::Opening,
         count: 32,
-        case: Case::Letters,
-        plus: false,
-        own: Own {
-            four: Identity(0, 0, 0, 0),
-            seven: Seven(0, 0, 0, 0, 0, 0, 0),
-            code: mode_a::NO_CODE,
-        },
-        other: Peer::Nobody,
-        owed: Owed::Nothing,
+        ..Station::fresh_master()
     }
 }
 
 fn run_step(times: u64) -> u64 {
-    let mut steps = [0u8; 20480];
-    fill(&mut steps, Filling::Plan);
     let bad_station = station::step(unsound(), mode_a::SILENCE, Offer::Nothing);
     let bad_offer = station::step(
         Station::fresh_master(),
         mode_a::SILENCE,
         Offer::Text(Words(0, 71, 71)),
     );
-    step_often(
-        times,
-        &steps,
-        mix_refused(mix_refused(0, bad_station), bad_offer),
-    )
+    let refused = mix_refused(mix_refused(0, bad_station), bad_offer);
+    steps_often(times, fresh_pair(refused), |pair, step| {
+        renew(pair, step);
+        pair.exchange(step.damage, offer_of(step));
+    })
 }
 
 // --- why ---
@@ -576,55 +481,17 @@ fn reason_no(reason: Reason) -> u64 {
     }
 }
 
-fn mix_why(sum: u64, answer: Why) -> u64 {
+fn mix_why(sum: u64, answer: Result<Reason, Refusal>) -> u64 {
     match answer {
-        Why::Because(reason) => mix(sum, reason_no(reason)),
-        Why::BadStation => mix_refusal(sum, 4, 0),
-        Why::BadCode => mix_refusal(sum, 9, 0),
-        Why::BadWord(index) => mix_refusal(sum, 3, index as u64),
-        Why::BadCall(index) => mix_refusal(sum, 8, index as u64),
+        Ok(reason) => mix(sum, reason_no(reason)),
+        Err(refusal) => mix_told(sum, refusal),
     }
 }
 
-// What `exchanged` does, and before it the reason of the same station, burst and offer is asked for.
-fn explained(pair: Pair, damage: u8, offer: Offer) -> Pair {
-    let hearer = pair.hearer;
-    let sender = pair.sender;
-    let burst = damaged(pair.burst, damage);
-    let told = mix_why(pair.sum, help_desk::why(hearer, burst, offer));
-    let reply = fields::reply_of(station::step(hearer, burst, offer));
-    let after = reply.station;
-    let sent = reply.sent;
-    Pair {
-        hearer: sender,
-        sender: after,
-        burst: sent,
-        sum: mix_reply(told, reply),
-    }
-}
-
-fn why_often(times: u64, steps: &[u8], from: u64) -> u64 {
-    let mut pair = fresh_pair(from);
-    let mut i: u64 = 0;
-    while i < times {
-        let j = (i % 4096) as usize;
-        if j % 256 == 0 {
-            pair = fresh_pair(pair.sum);
-        }
-        let at = 5 * j;
-        if at + 4 < steps.len() {
-            let words = Words(steps[at + 2], steps[at + 3], steps[at + 4]);
-            pair = explained(pair, steps[at], offer_of(j, steps[at + 1], words));
-        }
-        i += 1;
-    }
-    pair.sum
-}
-
-fn mix_starred(sum: u64, answer: Starred) -> u64 {
+fn mix_starred(sum: u64, answer: Result<Option<Star>, StarError>) -> u64 {
     match answer {
-        Starred::Done(_) => sum,
-        Starred::BadReceiver => mix_refusal(sum, 4, 0),
+        Ok(_) => sum,
+        Err(_) => mix_refusal(sum, 4, 0),
     }
 }
 
@@ -642,9 +509,12 @@ fn why_refused() -> u64 {
 
 // The draws and the steps of `run_step`: what it takes more than that is what the question takes.
 fn run_why(times: u64) -> u64 {
-    let mut steps = [0u8; 20480];
-    fill(&mut steps, Filling::Plan);
-    why_often(times, &steps, why_refused())
+    steps_often(times, fresh_pair(why_refused()), |pair, step| {
+        renew(pair, step);
+        let offer = offer_of(step);
+        pair.explain(step.damage, offer);
+        pair.exchange(step.damage, offer);
+    })
 }
 
 // --- step, at Stand-by and Calling ---
@@ -655,9 +525,9 @@ const VXQZ: Identity = Identity(60, 58, 46, 99);
 
 fn standing(identity: Identity) -> Station {
     match Station::standing_by(identity) {
-        Stood::By(s) => s,
+        Ok(s) => s,
         // not reached: every signal of the two is of table 3a
-        Stood::BadIdentity(_) => Station::fresh_slave(),
+        Err(_) => Station::fresh_slave(),
     }
 }
 
@@ -666,77 +536,52 @@ fn standing_pair(sum: u64) -> Pair {
         hearer: standing(DOCK),
         sender: standing(VXQZ),
         burst: mode_a::SILENCE,
-        sum: sum,
+        sum,
     }
 }
 
-// What is offered at each step: at the first of eight the call, then as in a circuit.
-fn call_offer_of(j: usize, kind: u8, words: Words) -> Offer {
-    if j % 8 == 0 {
-        return Offer::Call(VXQZ);
-    }
-    offer_of(j, kind, words)
-}
-
-fn call_often(times: u64, steps: &[u8], from: u64) -> u64 {
-    let mut pair = standing_pair(from);
-    let mut i: u64 = 0;
-    while i < times {
-        let j = (i % 4096) as usize;
-        if j % 8 == 0 {
-            pair = standing_pair(pair.sum);
-        }
-        let at = 5 * j;
-        if at + 4 < steps.len() {
-            let words = Words(steps[at + 2], steps[at + 3], steps[at + 4]);
-            pair = exchanged(pair, steps[at], call_offer_of(j, steps[at + 1], words));
-        }
-        i += 1;
-    }
-    pair.sum
-}
-
-fn mix_stood(sum: u64, stood: Stood) -> u64 {
+fn mix_stood(sum: u64, stood: Result<Station, BadIdentity>) -> u64 {
     match stood {
-        Stood::By(_) => sum,
-        Stood::BadIdentity(index) => mix_refusal(sum, 8, index as u64),
+        Ok(_) => sum,
+        Err(BadIdentity(index)) => mix_refusal(sum, 8, index as u64),
     }
 }
 
+// The two stand anew at each of eight steps, and there the call is offered; then it goes on as in a circuit.
 fn run_call(times: u64) -> u64 {
-    let mut steps = [0u8; 20480];
-    fill(&mut steps, Filling::Plan);
     let bad_identity = Station::standing_by(Identity(60, 101, 46, 99));
     let bad_call = station::step(
         Station::fresh_master(),
         mode_a::SILENCE,
         Offer::Call(Identity(60, 58, 101, 99)),
     );
-    call_often(
-        times,
-        &steps,
-        mix_refused(mix_stood(0, bad_identity), bad_call),
-    )
+    let refused = mix_refused(mix_stood(0, bad_identity), bad_call);
+    steps_often(times, standing_pair(refused), |pair, step| {
+        if step.j % 8 == 0 {
+            *pair = standing_pair(pair.sum);
+            pair.exchange(step.damage, Offer::Call(VXQZ));
+        } else {
+            pair.exchange(step.damage, offer_of(step));
+        }
+    })
 }
 
 // --- slot ---
 
-fn mix_slot(sum: u64, slot: Slot) -> u64 {
+fn mix_slot(sum: u64, slot: Result<u8, SlotError>) -> u64 {
     match slot {
-        Slot::Word(word) => mix(sum, word as u64),
-        Slot::TooLong => mix_refusal(sum, 7, 8192),
-        Slot::BadWord(index) => mix_refusal(sum, 3, index as u64),
-        Slot::PastLast(slots) => mix_refusal(sum, 6, slots as u64),
+        Ok(word) => mix(sum, word as u64),
+        Err(SlotError::TooLong) => mix_refusal(sum, 7, 8192),
+        Err(SlotError::BadWord(index)) => mix_refusal(sum, 3, index as u64),
+        Err(SlotError::PastLast(slots)) => mix_refusal(sum, 6, slots as u64),
     }
 }
 
 // How many slots the text has: beside the refusal of a slot that none has.
 fn slots_of(text: &[u8]) -> usize {
     match sending::slot(text, 4294967295) {
-        Slot::Word(_) => 0,
-        Slot::TooLong => 0,
-        Slot::BadWord(_) => 0,
-        Slot::PastLast(slots) => slots,
+        Err(SlotError::PastLast(slots)) => slots,
+        Ok(_) | Err(SlotError::TooLong | SlotError::BadWord(_)) => 0,
     }
 }
 
@@ -750,74 +595,59 @@ fn slot_often(times: u64, text: &[u8]) -> u64 {
     let slots = slots_of(text);
     let mut sum = slot_refused(text);
     let mut number = 0;
-    let mut i: u64 = 0;
-    while i < times {
+    for _ in 0..times {
         sum = mix_slot(sum, sending::slot(text, number));
-        if number < slots {
-            number += 1;
-        }
-        if number == slots {
+        number = number.saturating_add(1);
+        if slots <= number {
             number = 0;
         }
-        i += 1;
     }
     sum
 }
 
 fn run_slot(times: u64, length: usize) -> u64 {
     let mut text = [0u8; 8192];
-    fill(&mut text, Filling::Traffic);
-    let count = first(&text, length);
-    slot_often(times, &text[..count])
+    fill(&mut text, traffic);
+    slot_often(times, first(&text, length))
 }
 
 // --- receive ---
 
-fn word_in(slot: Slot) -> u8 {
-    match slot {
-        Slot::Word(word) => word,
-        Slot::TooLong => 0,
-        Slot::BadWord(_) => 0,
-        Slot::PastLast(_) => 0,
-    }
-}
-
 // A slot of the text as it is heard: each sixteenth or so is damaged.
 fn heard(g: u64, text: &[u8], number: usize) -> u8 {
     if drawn(g, 16) == 0 {
-        return 0;
+        0
+    } else {
+        sending::slot(text, number).unwrap_or(0)
     }
-    word_in(sending::slot(text, number))
 }
 
 fn broadcast(stream: &mut [u8], text: &[u8], from: u64) {
     let mut g = from;
-    let mut k = 0;
-    while k < stream.len() {
+    for (k, word) in stream.iter_mut().enumerate() {
         g = next(g);
-        numbers::put(stream, k, heard(g, text, k));
-        k += 1;
+        *word = heard(g, text, k);
     }
 }
 
-fn receiver_in(received: Received) -> Receiver {
+fn receiver_in(received: Result<Heard, BadReceiver>) -> Receiver {
     match received {
-        Received::Done(heard) => heard.receiver,
-        Received::BadReceiver(receiver) => receiver,
+        Ok(heard) => heard.receiver,
+        Err(BadReceiver(receiver)) => receiver,
     }
 }
 
-fn printed_in(received: Received) -> u8 {
+fn printed_in(received: Result<Heard, BadReceiver>) -> u8 {
     match received {
-        Received::Done(heard) => heard.printed,
-        Received::BadReceiver(_) => 0,
+        Ok(heard) => heard.printed.unwrap_or(0),
+        Err(BadReceiver(_)) => 0,
     }
 }
 
-fn mix_unsound(sum: u64, received: Received) -> u64 {
+fn mix_unsound(sum: u64, received: Result<Heard, BadReceiver>) -> u64 {
     match received {
-        Received::Done(_) => sum,
-        Received::BadReceiver(_) => mix_refusal(sum, 4, 0),
+        Ok(_) => sum,
+        Err(BadReceiver(_)) => mix_refusal(sum, 4, 0),
     }
 }
 
@@ -836,8 +666,7 @@ fn receive_often(times: u64, stream: &[u8]) -> u64 {
     let mut sum = receive_refused();
     let mut receiver = Receiver::fresh();
     let mut at = 0;
-    let mut i: u64 = 0;
-    while i < times {
+    for _ in 0..times {
         if at < stream.len() {
             let received = receiving::receive(receiver, stream[at]);
             sum = mix_byte(sum, printed_in(received));
@@ -847,47 +676,39 @@ fn receive_often(times: u64, stream: &[u8]) -> u64 {
         if at == stream.len() {
             at = 0;
         }
-        i += 1;
     }
     sum
 }
 
 fn run_receive(times: u64) -> u64 {
     let mut text = [0u8; 40];
-    let g = fill(&mut text, Filling::Traffic);
+    let g = fill(&mut text, traffic);
     let mut stream = [0u8; 256];
     broadcast(&mut stream, &text, g);
-    let slots = first(&stream, slots_of(&text));
-    receive_often(times, &stream[..slots])
+    receive_often(times, first(&stream, slots_of(&text)))
 }
 
 // --- passage ---
 
 // What a station printed: how much, the last byte of it.
 fn mix_by(sum: u64, count: usize, room: &[u8]) -> u64 {
-    let told = mix(sum, count as u64);
-    if count == 0 {
-        return told;
-    }
-    if room.len() < count {
-        return told;
-    }
-    mix_byte(told, room[count - 1])
+    mix_last(mix(sum, count as u64), count, room)
 }
 
-fn mix_passed(sum: u64, answer: Passed, by_master: &[u8], by_slave: &[u8]) -> u64 {
+fn mix_passed(
+    sum: u64,
+    answer: Result<Printed, PassError>,
+    by_master: &[u8],
+    by_slave: &[u8],
+) -> u64 {
     match answer {
-        Passed::Printed { master, slave } => mix_by(
-            mix_by(sum, master, by_master),
-            slave,
-            by_slave,
-        ),
-        Passed::UnknownKind(place) => mix_refusal(sum, 10, place as u64),
-        Passed::CutShort(place) => mix_refusal(sum, 11, place as u64),
-        Passed::BadBurst(place) => mix_refusal(sum, 12, place as u64),
-        Passed::StillOffered(place) => mix_refusal(sum, 13, place as u64),
-        Passed::BadWord(place) => mix_refusal(sum, 3, place as u64),
-        Passed::NoRoom(needed) => mix_refusal(sum, 2, needed as u64),
+        Ok(Printed { master, slave }) => mix_by(mix_by(sum, master, by_master), slave, by_slave),
+        Err(PassError::UnknownKind(place)) => mix_refusal(sum, 10, place as u64),
+        Err(PassError::CutShort(place)) => mix_refusal(sum, 11, place as u64),
+        Err(PassError::BadBurst(place)) => mix_refusal(sum, 12, place as u64),
+        Err(PassError::StillOffered(place)) => mix_refusal(sum, 13, place as u64),
+        Err(PassError::BadWord(place)) => mix_refusal(sum, 3, place as u64),
+        Err(PassError::NoRoom(needed)) => mix_refusal(sum, 2, needed as u64),
     }
 }
 
@@ -899,11 +720,9 @@ fn passage_often(
     from: u64,
 ) -> u64 {
     let mut sum = from;
-    let mut i: u64 = 0;
-    while i < times {
+    for _ in 0..times {
         let answer = passing::passage(bytes, by_master, by_slave);
         sum = mix_passed(sum, answer, by_master, by_slave);
-        i += 1;
     }
     sum
 }
@@ -936,83 +755,64 @@ fn run_passage(times: u64, length: usize) -> u64 {
     let mut bytes = [0u8; 8192];
     let mut by_master = [0u8; 8192];
     let mut by_slave = [0u8; 8192];
-    fill(&mut bytes, Filling::Record);
-    let count = first(&bytes, length);
+    fill(&mut bytes, recorded);
     passage_often(
         times,
-        &bytes[..count],
+        first(&bytes, length),
         &mut by_master,
         &mut by_slave,
         passage_refused(),
     )
 }
 
-fn answer(stream: Stream, output: &mut [u8], name: &[u8], sum: u64) -> ExitCode {
-    let mut line = [0u8; 32];
-    let mut at = numbers::put_all(&mut line, 0, name);
-    at = filters::put_decimal(&mut line, at, sum);
-    at = numbers::put(&mut line, at, 10);
-    filters::status(stream.put_line(output, &line, at).finish(output, b"bench"))
+// The call's name, and the check-sum of its answers.
+fn answered(asked: Asked) -> (&'static [u8], u64) {
+    match asked.call {
+        1 => (b"meaning ", run_meaning(asked.times)),
+        2 => (b"encode ", run_encode(asked.times, asked.length)),
+        3 => (b"print ", run_print(asked.times, asked.length)),
+        4 => (b"step ", run_step(asked.times)),
+        5 => (b"slot ", run_slot(asked.times, asked.length)),
+        6 => (b"receive ", run_receive(asked.times)),
+        7 => (b"call ", run_call(asked.times)),
+        8 => (b"passage ", run_passage(asked.times, asked.length)),
+        _ => (b"why ", run_why(asked.times)),
+    }
 }
 
-fn run(stream: Stream, output: &mut [u8], asked: Asked) -> ExitCode {
-    let call = asked.call;
-    match call {
-        1 => answer(stream, output, b"meaning ", run_meaning(asked.times)),
-        2 => answer(
-            stream,
-            output,
-            b"encode ",
-            run_encode(asked.times, asked.length),
-        ),
-        3 => answer(
-            stream,
-            output,
-            b"print ",
-            run_print(asked.times, asked.length),
-        ),
-        4 => answer(stream, output, b"step ", run_step(asked.times)),
-        5 => answer(
-            stream,
-            output,
-            b"slot ",
-            run_slot(asked.times, asked.length),
-        ),
-        6 => answer(stream, output, b"receive ", run_receive(asked.times)),
-        7 => answer(stream, output, b"call ", run_call(asked.times)),
-        8 => answer(
-            stream,
-            output,
-            b"passage ",
-            run_passage(asked.times, asked.length),
-        ),
-        _ => answer(stream, output, b"why ", run_why(asked.times)),
+// A function of its own, since bench/stack stops a run where it begins.
+#[inline(never)]
+fn answer(stream: &mut Stream, name: &[u8], sum: u64) -> Result<(), ExitCode> {
+    let mut room = [0u8; 32];
+    let mut line = Line::new(&mut room);
+    line.put_all(name);
+    filters::put_decimal(&mut line, sum);
+    stream.put_line(line);
+    stream.finish(b"bench")
+}
+
+fn run(rt: HostRuntime) -> Result<(), ExitCode> {
+    filters::no_words(rt, b"bench")?;
+    let mut input = [0u8; 64];
+    let mut output = [0u8; 64];
+    let mut stream = Stream::new(rt, &mut input, &mut output);
+    // white space behind what is read; an input that fills the line is too long
+    let mut bytes = [32u8; 64];
+    let count = stream.record(&mut bytes);
+    stream.check(b"bench")?;
+    match asked_in(&bytes) {
+        Some(asked) if count < 64 => {
+            let (name, sum) = answered(asked);
+            answer(&mut stream, name, sum)
+        }
+        _ => Err(filters::tell(
+            rt,
+            b"bench",
+            b"no such call: the input is CALL N L, CALL 1 to 9, L at most 8192",
+        )),
     }
 }
 
 fn main(rt: HostRuntime) -> ExitCode {
-    if filters::has_words(rt, b"bench") {
-        return filters::not_run();
-    }
-    let mut input = [0u8; 64];
-    let mut output = [0u8; 64];
-    // white space behind what is read; an input that fills the line is too long
-    let mut line = [32u8; 64];
-    let read = Stream::new(rt).record(&mut input, &output, &mut line, 64);
-    let count = read.count;
-    let stream = read.stream;
-    if stream.failed(b"bench") {
-        return ExitCode::FAILURE;
-    }
-    let asked = asked_in(&line);
-    if asked.call != 0 {
-        if count < 64 {
-            return run(stream, &mut output, asked);
-        }
-    }
-    filters::tell(
-        rt,
-        b"bench",
-        b"no such call: the input is CALL N L, CALL 1 to 9, L at most 8192",
-    )
+    filters::status(run(rt))
 }

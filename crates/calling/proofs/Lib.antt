@@ -1,3 +1,3 @@
 -- Laws that the proofs of this crate share.
---     CallLaws   which of the own call blocks a burst is, in the order in which the code asks
+--     CallLaws   the signals are of table 3a where none is outside
 mod CallLaws

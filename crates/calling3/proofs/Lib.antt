@@ -1,3 +1,3 @@
 -- Laws of this crate's functions.
---     Call3Laws   which of the own call blocks a burst is, in the order in which the code asks
+--     Call3Laws   the signals are of table 3a where none is outside
 pub mod Call3Laws

@@ -33,93 +33,66 @@ fn block_3(to: Seven) -> Words
 }
 
 // The part, where all seven signals are of table 3a: a station with another identity, or with none, hears no call.
+#[tactic(auto, using(crate::proofs::Call3Laws::outside, crate::proofs::Call3Laws::none_outside))]
 fn if_callable(seven: Seven, part: Part) -> Part
     ensures { result ≡ (if is_callable7 seven then part else Part.None) }
 {
     if seven.first_outside() < 7 {
-        return Part::None;
+        Part::None
+    } else {
+        part
     }
-    part
 }
 
 // Which of the own call blocks the burst is, if any. Table 3a is asked only where the burst is one of the three.
+#[tactic(auto, unfolding(mode_a::specs::Heard::call3_of, mode_a::specs::Heard::is_words))]
 pub fn call_of(seven: Seven, b: Words) -> Part
     ensures { result ≡ call3_of seven b }
 {
-    let first = block_1(seven);
-    if table::is_words(b, first.0, first.1, first.2) {
-        return if_callable(seven, Part::One);
+    if b == block_1(seven) {
+        if_callable(seven, Part::One)
+    } else if b == block_2(seven) {
+        if_callable(seven, Part::Two)
+    } else if b == block_3(seven) {
+        if_callable(seven, Part::Three)
+    } else {
+        Part::None
     }
-    let second = block_2(seven);
-    if table::is_words(b, second.0, second.1, second.2) {
-        return if_callable(seven, Part::Two);
-    }
-    let third = block_3(seven);
-    if table::is_words(b, third.0, third.1, third.2) {
-        return if_callable(seven, Part::Three);
-    }
-    Part::None
 }
 
 // "the three call blocks in succession": whether this one completes 1-2-3 or 2-3-1.
 pub fn all_heard(before: Succession, heard: Part) -> bool
     ensures { result ≡ all_heard before heard }
 {
-    match heard {
-        Part::None => false,
-        Part::One => match before {
-            Succession::None => false,
-            Succession::One => false,
-            Succession::OneTwo => false,
-            Succession::Two => false,
-            Succession::TwoThree => true,
-        },
-        Part::Two => false,
-        Part::Three => match before {
-            Succession::None => false,
-            Succession::One => false,
-            Succession::OneTwo => true,
-            Succession::Two => false, // block 1 has not come yet
-            Succession::TwoThree => false,
-        },
-    }
+    matches!(
+        (before, heard),
+        (Succession::TwoThree, Part::One) | (Succession::OneTwo, Part::Three)
+    )
 }
 
 // Which blocks are then heard in succession. Block 3 begins nothing: it is three plain letters.
 pub fn heard_then(before: Succession, heard: Part) -> Succession
     ensures { result ≡ heard_then before heard }
 {
-    match heard {
-        Part::None => Succession::None,
-        Part::One => Succession::One,
-        Part::Two => match before {
-            Succession::None => Succession::Two,
-            Succession::One => Succession::OneTwo,
-            Succession::OneTwo => Succession::Two, // block 2 twice: block 1 no longer stands right before it
-            Succession::Two => Succession::Two,
-            Succession::TwoThree => Succession::Two,
-        },
-        Part::Three => match before {
-            Succession::None => Succession::None,
-            Succession::One => Succession::None,
-            Succession::OneTwo => Succession::None,
-            Succession::Two => Succession::TwoThree,
-            Succession::TwoThree => Succession::None,
-        },
+    match (before, heard) {
+        (_, Part::One) => Succession::One,
+        (Succession::One, Part::Two) => Succession::OneTwo,
+        (_, Part::Two) => Succession::Two, // twice in a row too: block 1 no longer stands right before it
+        (Succession::Two, Part::Three) => Succession::TwoThree,
+        _ => Succession::None,
     }
 }
 
 // The three call blocks in turn: the block that follows so many of them.
+#[tactic(auto, unfolding(mode_a::specs::Calls::next_block3))]
 fn next_block(to: Seven, sent: u8) -> Words
     ensures { result ≡ next_block3 to sent }
 {
-    if sent % 3 == 0 {
-        return block_1(to);
+    match sent % 3 {
+        0 => block_1(to),
+        1 => block_2(to),
+        _ => block_3(to),
     }
-    if sent % 3 == 1 {
-        return block_2(to);
-    }
-    block_3(to)
 }
 
 // Calling with three blocks that hears none of CS3, CS4 and CS5: the next call block, "within 128 cycles".
@@ -127,17 +100,15 @@ pub fn calls_on(place: Place) -> Doing
     ensures { result ≡ calls_on3 (called3_in place) }
 {
     let c = carried::called3_in(place);
-    let to = c.to;
-    let sent = c.sent;
-    if Station::CALLS <= sent {
-        return Doing::Bars(to);
+    if Station::CALLS <= c.sent {
+        return Doing::Bars(c.to);
     }
     Doing::Goes(
         Place::Calling3(Called3 {
-            to: to,
-            sent: sent + 1,
+            sent: c.sent + 1,
+            ..c
         }),
-        next_block(to, sent),
+        next_block(c.to, c.sent),
     )
 }
 
@@ -146,16 +117,14 @@ pub fn identifies(place: Place, own: Own) -> Doing
     ensures { result ≡ calling3 own.seven (called3_in place) (Else Cs4) }
 {
     let c = carried::called3_in(place);
-    let to = c.to;
-    let y = own.seven;
     Doing::Goes(
         Place::Identifying(Identified {
-            to: to,
+            to: c.to,
             stage: Stage::One,
             wrong: 0,
             last: 0,
         }),
-        Words(y.0, signals::ALPHA, y.1),
+        Words(own.seven.0, signals::ALPHA, own.seven.1),
     )
 }
 
@@ -163,16 +132,12 @@ pub fn identifies(place: Place, own: Own) -> Doing
 pub fn ends(place: Place) -> Doing
     ensures { result ≡ Doing.Ends (called3_in place).to }
 {
-    let c = carried::called3_in(place);
-    let to = c.to;
-    Doing::Ends(to)
+    Doing::Ends(carried::called3_in(place).to)
 }
 
 // CS3: "immediately changes to the stand-by condition".
 pub fn stops(place: Place) -> Doing
     ensures { result ≡ Doing.Bars (called3_in place).to }
 {
-    let c = carried::called3_in(place);
-    let to = c.to;
-    Doing::Bars(to)
+    Doing::Bars(carried::called3_in(place).to)
 }

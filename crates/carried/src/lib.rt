@@ -17,16 +17,9 @@ pub fn number_in(place: Place) -> Number
     match place {
         Place::Sending(held) => held.number,
         Place::Turning(number) => number,
-        Place::Opening => Number::One,
         Place::Ending(ended) => ended.number,
         Place::Receiving(number) => number,
-        Place::Asking => Number::One,
-        Place::StandBy(_) => Number::One,
-        Place::Lost => Number::One,
-        Place::Calling(_) => Number::One,
-        Place::Calling3(_) => Number::One,
-        Place::Identifying(_) => Number::One,
-        Place::Answering(_) => Number::One,
+        _ => Number::One,
     }
 }
 
@@ -36,17 +29,7 @@ pub fn block_in(place: Place) -> Words
 {
     match place {
         Place::Sending(held) => held.block,
-        Place::Turning(_) => mode_a::SILENCE,
-        Place::Opening => mode_a::SILENCE,
-        Place::Ending(_) => mode_a::SILENCE,
-        Place::Receiving(_) => mode_a::SILENCE,
-        Place::Asking => mode_a::SILENCE,
-        Place::StandBy(_) => mode_a::SILENCE,
-        Place::Lost => mode_a::SILENCE,
-        Place::Calling(_) => mode_a::SILENCE,
-        Place::Calling3(_) => mode_a::SILENCE,
-        Place::Identifying(_) => mode_a::SILENCE,
-        Place::Answering(_) => mode_a::SILENCE,
+        _ => mode_a::SILENCE,
     }
 }
 
@@ -55,18 +38,8 @@ pub fn total_in(place: Place) -> u8
     ensures { result ≡ total_in place }
 {
     match place {
-        Place::Sending(_) => 0,
-        Place::Turning(_) => 0,
-        Place::Opening => 0,
         Place::Ending(ended) => ended.total,
-        Place::Receiving(_) => 0,
-        Place::Asking => 0,
-        Place::StandBy(_) => 0,
-        Place::Lost => 0,
-        Place::Calling(_) => 0,
-        Place::Calling3(_) => 0,
-        Place::Identifying(_) => 0,
-        Place::Answering(_) => 0,
+        _ => 0,
     }
 }
 
@@ -104,18 +77,8 @@ pub fn waiting_in(place: Place) -> Waiting
     ensures { result ≡ waiting_in place }
 {
     match place {
-        Place::Sending(_) => UNHEARD,
-        Place::Turning(_) => UNHEARD,
-        Place::Opening => UNHEARD,
-        Place::Ending(_) => UNHEARD,
-        Place::Receiving(_) => UNHEARD,
-        Place::Asking => UNHEARD,
         Place::StandBy(waiting) => waiting,
-        Place::Lost => UNHEARD,
-        Place::Calling(_) => UNHEARD,
-        Place::Calling3(_) => UNHEARD,
-        Place::Identifying(_) => UNHEARD,
-        Place::Answering(_) => UNHEARD,
+        _ => UNHEARD,
     }
 }
 
@@ -124,18 +87,8 @@ pub fn called_in(place: Place) -> Called
     ensures { result ≡ called_in place }
 {
     match place {
-        Place::Sending(_) => UNCALLED,
-        Place::Turning(_) => UNCALLED,
-        Place::Opening => UNCALLED,
-        Place::Ending(_) => UNCALLED,
-        Place::Receiving(_) => UNCALLED,
-        Place::Asking => UNCALLED,
-        Place::StandBy(_) => UNCALLED,
-        Place::Lost => UNCALLED,
         Place::Calling(called) => called,
-        Place::Calling3(_) => UNCALLED,
-        Place::Identifying(_) => UNCALLED,
-        Place::Answering(_) => UNCALLED,
+        _ => UNCALLED,
     }
 }
 
@@ -144,18 +97,8 @@ pub fn called3_in(place: Place) -> Called3
     ensures { result ≡ called3_in place }
 {
     match place {
-        Place::Sending(_) => UNCALLED3,
-        Place::Turning(_) => UNCALLED3,
-        Place::Opening => UNCALLED3,
-        Place::Ending(_) => UNCALLED3,
-        Place::Receiving(_) => UNCALLED3,
-        Place::Asking => UNCALLED3,
-        Place::StandBy(_) => UNCALLED3,
-        Place::Lost => UNCALLED3,
-        Place::Calling(_) => UNCALLED3,
         Place::Calling3(called) => called,
-        Place::Identifying(_) => UNCALLED3,
-        Place::Answering(_) => UNCALLED3,
+        _ => UNCALLED3,
     }
 }
 
@@ -164,18 +107,8 @@ pub fn identified_in(place: Place) -> Identified
     ensures { result ≡ identified_in place }
 {
     match place {
-        Place::Sending(_) => UNIDENTIFIED,
-        Place::Turning(_) => UNIDENTIFIED,
-        Place::Opening => UNIDENTIFIED,
-        Place::Ending(_) => UNIDENTIFIED,
-        Place::Receiving(_) => UNIDENTIFIED,
-        Place::Asking => UNIDENTIFIED,
-        Place::StandBy(_) => UNIDENTIFIED,
-        Place::Lost => UNIDENTIFIED,
-        Place::Calling(_) => UNIDENTIFIED,
-        Place::Calling3(_) => UNIDENTIFIED,
         Place::Identifying(identified) => identified,
-        Place::Answering(_) => UNIDENTIFIED,
+        _ => UNIDENTIFIED,
     }
 }
 
@@ -184,17 +117,7 @@ pub fn gathered_in(place: Place) -> Gathered
     ensures { result ≡ gathered_in place }
 {
     match place {
-        Place::Sending(_) => UNGATHERED,
-        Place::Turning(_) => UNGATHERED,
-        Place::Opening => UNGATHERED,
-        Place::Ending(_) => UNGATHERED,
-        Place::Receiving(_) => UNGATHERED,
-        Place::Asking => UNGATHERED,
-        Place::StandBy(_) => UNGATHERED,
-        Place::Lost => UNGATHERED,
-        Place::Calling(_) => UNGATHERED,
-        Place::Calling3(_) => UNGATHERED,
-        Place::Identifying(_) => UNGATHERED,
         Place::Answering(gathered) => gathered,
+        _ => UNGATHERED,
     }
 }

@@ -18,7 +18,7 @@ use Rattle.signals.specs.declared.Case.TheVariants.{Letters, Figures}
 use Rattle.signals.specs.declared.Row.{Row}
 use Rattle.signals.specs.Rows.{row_of}
 use Rattle.text.specs.Encoding.{raised, character_of, has_signal, shift, signals_for, case_after}
-use Rattle.text.specs.Shifts.{shift_to, other}
+use Rattle.signals.specs.Cases.{shift_to, other}
 use Rattle.text.proofs.CharacterLaws.{signal_is_low}
 use Rattle.characters.specs.Holder.{holder_of, HasRow}
 

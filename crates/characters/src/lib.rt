@@ -26,12 +26,7 @@ fn has_signal(byte: u8) -> bool
 pub fn first_without(text: &[u8]) -> usize
     ensures { result ≡ first_not has_signal text.now }
 {
-    let mut i = 0;
-    while i < text.len() {
-        if !has_signal(text[i]) {
-            return i;
-        }
-        i += 1;
-    }
-    i
+    text.iter()
+        .position(|byte| !has_signal(*byte))
+        .unwrap_or(text.len())
 }

@@ -12,7 +12,8 @@ use Rattle.signals.specs.Meaning.{traffic_of, meaning_of, alpha, rq, error_mark}
 use Rattle.mode_b.specs.declared.Phasing.{Phasing}
 use Rattle.mode_b.specs.declared.Receiver.{Receiver}
 use Rattle.mode_b.specs.Sender.{Position, dx_of, rx_of, carriage_return, line_feed, with_breaks, positions_of, slots_from, slots_of}
-use Rattle.mode_b.specs.Receiver.{Settled, settled, printed_of, printing_after, begins, heard_rx, fresh_receiver, receiving, receiver_after}
+use Rattle.mode_b.specs.declared.Settled.{Settled}
+use Rattle.mode_b.specs.Receiver.{settled, printed_of, printing_after, begins, heard_rx, fresh_receiver, receiving, receiver_after}
 use Rattle.signals.specs.Damage.{Damage, kept, hurt, arrives, NoSignal}
 use Rattle.copy.specs.Run.{Damages, one, prints_of, heard_from, listen, copy_from, deaf_before}
 use Rattle.copy.specs.Premise.{Text}
@@ -67,9 +68,9 @@ sees : (p : Position) → Word p → (a b : Damage) → NoSignal a → NoSignal 
 sees Position.phasing s kept b m n = settles_phasing true kept b m n (inl refl)
 sees Position.phasing s (hurt u) kept m n = settles_phasing true (hurt u) kept m n (inr refl)
 sees Position.phasing s (hurt u) (hurt v) m n = rw (settles_error u v (mutilated u m) (mutilated v n)) (refl, refl)
-sees (Position.signal w) s kept b m n = rw (settles_signal w s kept b m n (inl refl), s.is_traffic, s.not_zero) (refl, refl)
+sees (Position.signal w) s kept b m n = rw (settles_signal w s kept b m n (inl refl), s.is_traffic) (refl, refl)
 sees (Position.signal w) s (hurt u) kept m n =
-    rw (settles_signal w s (hurt u) kept m n (inr refl), s.is_traffic, s.not_zero) (refl, refl)
+    rw (settles_signal w s (hurt u) kept m n (inr refl), s.is_traffic) (refl, refl)
 sees (Position.signal w) s (hurt u) (hurt v) m n = rw (settles_error u v (mutilated u m) (mutilated v n)) (refl, refl)
 sees Position.idle s kept b m n = settles_idle true kept b m n (inl refl)
 sees Position.idle s (hurt u) kept m n = settles_idle true (hurt u) kept m n (inr refl)
@@ -80,10 +81,10 @@ data First (p : Position) (missing : Bool) (s : Settled) : Type 0 where
   quiet : Quiet false s → First p missing s
   opens : (w : ℕ) → p ≡ Position.signal w → begins w ≡ true → missing ≡ false → First p missing s
 
-opening : (w : ℕ) → (missing : Bool) → missing ≡ false → First (Position.signal w) missing (Settled.signal w)
+opening : (w : ℕ) → (missing : Bool) → missing ≡ false → First (Position.signal w) missing (Settled.Signal w)
 opening w missing e = go (begins w) refl
   where
-    go : (t : Bool) → begins w ≡ t → First (Position.signal w) missing (Settled.signal w)
+    go : (t : Bool) → begins w ≡ t → First (Position.signal w) missing (Settled.Signal w)
     go true b = opens w refl b e
     go false b = quiet (rw b (refl, refl))
 
@@ -102,8 +103,8 @@ pub data Ready (p : Position) (missing : Bool) : Bool → Type 0 where
   begins_here : (w : ℕ) → p ≡ Position.signal w → begins w ≡ true → missing ≡ false → Ready p missing false
 
 opened : (w : ℕ) → Traffic w → begins w ≡ true → (a b : Damage) → NoSignal a → NoSignal b → damaged a && damaged b ≡ false → Sees (Position.signal w) a b false
-opened w s e kept b m n k = rw (settles_signal w s kept b m n (inl refl), e, s.is_traffic, s.not_zero) (refl, refl)
-opened w s e (hurt u) kept m n k = rw (settles_signal w s (hurt u) kept m n (inr refl), e, s.is_traffic, s.not_zero) (refl, refl)
+opened w s e kept b m n k = rw (settles_signal w s kept b m n (inl refl), e, s.is_traffic) (refl, refl)
+opened w s e (hurt u) kept m n k = rw (settles_signal w s (hurt u) kept m n (inr refl), e, s.is_traffic) (refl, refl)
 opened w s e (hurt u) (hurt v) m n k = absurd (false≢true (sym k))
 
 sees_ready : (p : Position) → Word p → (a b : Damage) → NoSignal a → NoSignal b → (printing : Bool) → Ready p (damaged a && damaged b) printing → Sees p a b printing

@@ -12,7 +12,8 @@ use Rattle.signals.specs.Meaning.{traffic_of, meaning_of, alpha, rq}
 use Rattle.mode_b.specs.declared.Phasing.{Phasing}
 use Rattle.mode_b.specs.declared.Hearing.TheVariants.{Searching, InPhase}
 use Rattle.mode_b.specs.declared.Receiver.{Receiver}
-use Rattle.mode_b.specs.Receiver.{Settled, settled, printed_of, printing_after, heard_dx, heard_rx, waits_for, waited, fresh_receiver}
+use Rattle.mode_b.specs.declared.Settled.{Settled}
+use Rattle.mode_b.specs.Receiver.{settled, printed_of, printing_after, heard_dx, heard_rx, waits_for, waited, fresh_receiver}
 use Rattle.mode_b.proofs.PhaseLaws.{rq_prints_nothing}
 use Rattle.signals.specs.Damage.{Damage, kept, hurt, arrives, NoSignal}
 use Rattle.copy.specs.Run.{one, listen}
@@ -49,7 +50,7 @@ pub hurt_kept : (v : ℕ) → hurt v ≡ kept → ⊥
 hurt_kept v e = let z : ◌≡◌ {A = ℕ} 0 1 = cc in omega arith
 
 -- what a position is settled to, by what happened to its copies
-pub settles_signal : (w : ℕ) → Traffic w → (a b : Damage) → NoSignal a → NoSignal b → (a ≡ kept) ⊎ (b ≡ kept) → settled (arrives a w) (arrives b w) ≡ Settled.signal w
+pub settles_signal : (w : ℕ) → Traffic w → (a b : Damage) → NoSignal a → NoSignal b → (a ≡ kept) ⊎ (b ≡ kept) → settled (arrives a w) (arrives b w) ≡ Settled.Signal w
 unfolding settled
 settles_signal w t kept kept m n c = rw (t.is_intact, eqb_self w)
 settles_signal w t kept (hurt v) m n c = rw (t.is_intact, (mutilated v n).not_intact, t.not_rq_lem)
@@ -57,7 +58,7 @@ settles_signal w t (hurt u) kept m n c = rw ((mutilated u m).not_intact, t.is_in
 settles_signal w t (hurt u) (hurt v) m n (inl e) = absurd (hurt_kept u e)
 settles_signal w t (hurt u) (hurt v) m n (inr e) = absurd (hurt_kept v e)
 
-pub settles_error : (u v : ℕ) → Mutilated u → Mutilated v → settled u v ≡ Settled.error
+pub settles_error : (u v : ℕ) → Mutilated u → Mutilated v → settled u v ≡ Settled.Error
 unfolding settled
 settles_error u v m n = rw (m.not_intact, n.not_intact, m.not_rq_lem)
 
@@ -65,12 +66,12 @@ settles_error u v m n = rw (m.not_intact, n.not_intact, m.not_rq_lem)
 abbrev pub Quiet : Bool → Settled → Type 0
 Quiet printing s = (one (printed_of printing s) ≡ []) × (printing_after printing s ≡ printing)
 
-quiet_rq : (printing : Bool) → Quiet printing (Settled.signal rq)
+quiet_rq : (printing : Bool) → Quiet printing (Settled.Signal rq)
 unfolding traffic_of meaning_of
 quiet_rq true = (refl, refl)
 quiet_rq false = (refl, refl)
 
-quiet_alpha : (printing : Bool) → Quiet printing (Settled.signal alpha)
+quiet_alpha : (printing : Bool) → Quiet printing (Settled.Signal alpha)
 unfolding traffic_of meaning_of
 quiet_alpha true = (refl, refl)
 quiet_alpha false = (refl, refl)

@@ -1,6 +1,6 @@
 -- 01, Mode B: what is heard of a broadcast, and what is printed of it.  R-125
 -- Assumes nothing.
-use Rattle.std.specs.Prelude.{◌≡◌, Bool, true, false, List, [], ◌∷◌, ◌++◌, ℕ, suc, eqb, ltb, drop, if◌then◌else◌}
+use Rattle.std.specs.Prelude.{◌≡◌, Bool, true, false, List, [], ◌∷◌, ◌++◌, ℕ, suc, ltb, drop, if◌then◌else◌, Option, Some, None}
 use Rattle.signals.specs.Damage.{Damage, hurt, arrives}
 use Rattle.signals.specs.Numbers.{Answer, answered, refused}
 use Rattle.mode_b.specs.declared.Receiver.{Receiver}
@@ -19,8 +19,9 @@ heard_from d k (w ∷ ws) = arrives (d k) w ∷ heard_from d (suc k) ws
 
 -- the signals that a receiver prints of a list of words. A step prints one signal or none; a refused one prints nothing and leaves
 -- the receiver as it was.
-abbrev pub one : ℕ → List ℕ
-one n = if eqb n 0 then [] else n ∷ []
+abbrev pub one : Option ℕ → List ℕ
+one None = []
+one (Some n) = n ∷ []
 
 abbrev pub prints_of : Answer Heard → List ℕ
 prints_of (answered h) = one h.printed

@@ -6,6 +6,7 @@ use mathlib.Core.Path.{◌≡◌, ap, sym, ◌∙◌}
 use mathlib.Core.Bool.{true≢false}
 use Prim.Native.Nat.{ℕ}
 use native.Mathlib.Omega.{arith}
+use Rattle.std.specs.Prelude.{Ok}
 use Rattle.signals.specs.Meaning.{meaning_of, traffic_of}
 use Rattle.signals.specs.Numbers.{Answer, answered, refused, first_not}
 use Rattle.mode_a.specs.declared.Number.TheVariants.{One}
@@ -13,7 +14,6 @@ use Rattle.mode_a.specs.declared.Words.{Words}
 use Rattle.mode_a.specs.declared.Offer.{Offer}
 use Rattle.mode_a.specs.declared.Station.{Station}
 use Rattle.mode_a.specs.declared.Reply.{Reply}
-use Rattle.mode_a.specs.declared.Stepped.{Stepped}
 use Rattle.mode_a.specs.Station.{silence, asks_for, fresh_slave}
 use Rattle.mode_a.specs.Heard.{first_of, may_hold, is_block, is_words, heard_of}
 use Rattle.mode_a.specs.Answerback.{code_signals, holds_neither, passes, owed_exists}
@@ -23,7 +23,7 @@ use Rattle.mode_a.specs.Step.{stands_at, done, sound, stepping, station_after, S
 abbrev repeated : ℕ → Station
 repeated k = stands_at fresh_slave fresh_slave.place k fresh_slave.case fresh_slave.plus
 
-pub no_count_made_up : (r : Reply) → r.station.count ≡ 2 → Steps (repeated 0) silence Offer.Nothing (Stepped.Done r) → ⊥
+pub no_count_made_up : (r : Reply) → r.station.count ≡ 2 → Steps (repeated 0) silence Offer.Nothing (Ok r) → ⊥
 unfolding stepping sound owed_exists passes code_signals holds_neither done first_not is_block may_hold traffic_of meaning_of heard_of first_of is_words
 no_count_made_up r e p =
     let z : ◌≡◌ {A = ℕ} 2 1 = sym e ∙ ap (λ (a : Answer Reply). (station_after fresh_slave a).count) p.0 in omega arith
@@ -33,7 +33,7 @@ sent_in (answered r) = r.sent
 sent_in (refused n v) = silence
 
 -- CS1 once more
-pub no_last_repeat_sent : (r : Reply) → r.sent ≡ asks_for One → Steps (repeated 31) silence Offer.Nothing (Stepped.Done r) → ⊥
+pub no_last_repeat_sent : (r : Reply) → r.sent ≡ asks_for One → Steps (repeated 31) silence Offer.Nothing (Ok r) → ⊥
 unfolding stepping sound owed_exists passes code_signals holds_neither done first_not is_block may_hold traffic_of meaning_of heard_of first_of is_words
 no_last_repeat_sent r e p =
     true≢false (sym (ap (λ (w : Words). is_words w (asks_for One)) e) ∙ ap (λ (a : Answer Reply). is_words (sent_in a) (asks_for One)) p.0)

@@ -10,6 +10,7 @@ use mode_a::{Doing, Mark, Number, Own, Place, Role, Station, Words};
 use table::Action;
 
 // What an action does at a place. Each arm reads from the place, the own identities and the burst what it asks for, and nothing else.
+#[tactic(auto, unfolding(crate::specs::Doings::doing_of))]
 pub fn doing(action: Action, role: Role, place: Place, own: Own, burst: Words) -> Doing
     ensures { result ≡ doing_of action role place own burst }
 {

@@ -4,71 +4,64 @@
 use filters::Stream;
 use signals::Case;
 use std::process::ExitCode;
-use text::Encoded;
-
-// The first `count` of the words, as they are written, and the end of their last line.
-fn put_words(first: Stream, output: &mut [u8], words: &[u8], count: usize) -> Stream {
-    let mut stream = first;
-    let mut i = 0;
-    while i < words.len() {
-        if count <= i {
-            return stream.end_line(output);
-        }
-        stream = stream.put_word(output, words[i]);
-        i += 1;
-    }
-    stream.end_line(output)
-}
+use text::{EncodeError, Written};
 
 // The signals written, or the refusal told.
-fn tell(stream: Stream, output: &mut [u8], answer: Encoded, room: &[u8]) -> ExitCode {
+fn tell(
+    stream: &mut Stream,
+    answer: Result<Written, EncodeError>,
+    room: &[u8],
+) -> Result<(), ExitCode> {
     match answer {
-        Encoded::Written { count, ends: _ } => {
-            filters::status(put_words(stream, output, room, count).finish(output, b"encode"))
+        Ok(Written { count, ends: _ }) => {
+            for &word in room.iter().take(count) {
+                stream.put_word(word);
+            }
+            stream.end_line();
+            stream.finish(b"encode")
         }
-        Encoded::TooLong => filters::tell_refusal(
+        Err(EncodeError::TooLong) => Err(filters::tell_refusal(
             stream.rt,
             b"encode",
             5,
             4096,
             b"over ",
             b" characters",
-        ),
-        Encoded::NoSignal(index) => filters::tell_refusal(
+        )),
+        Err(EncodeError::NoSignal(index)) => Err(filters::tell_refusal(
             stream.rt,
             b"encode",
             1,
             index as u64,
             b"the character at index ",
             b" has no signal",
-        ),
+        )),
         // not reached: no text that is not too long needs more
-        Encoded::NoRoom(needed) => filters::tell_refusal(
+        Err(EncodeError::NoRoom(needed)) => Err(filters::tell_refusal(
             stream.rt,
             b"encode",
             2,
             needed as u64,
             b"room for ",
             b" is needed",
-        ),
+        )),
     }
 }
 
-fn main(rt: HostRuntime) -> ExitCode {
-    if filters::has_words(rt, b"encode") {
-        return filters::not_run();
-    }
+fn run(rt: HostRuntime) -> Result<(), ExitCode> {
+    filters::no_words(rt, b"encode")?;
     let mut input = [0u8; 4096];
     let mut output = [0u8; 4096];
+    let mut stream = Stream::new(rt, &mut input, &mut output);
     // one character over the limit is enough to refuse
     let mut characters = [0u8; 4097];
-    let read = Stream::new(rt).record(&mut input, &output, &mut characters, 4097);
-    let count = read.count;
-    let stream = read.stream;
-    if stream.failed(b"encode") {
-        return ExitCode::FAILURE;
-    }
+    let count = stream.record(&mut characters);
+    stream.check(b"encode")?;
     let mut room = [0u8; 8192];
     let answer = encoding::encode(&characters[..count], Case::Letters, &mut room);
-    tell(stream, &mut output, answer, &room)
+    tell(&mut stream, answer, &room)
+}
+
+fn main(rt: HostRuntime) -> ExitCode {
+    filters::status(run(rt))
 }

@@ -2,16 +2,21 @@
 use mathlib.Core.Path.{◌≡◌, refl, ap, sym, ◌∙◌}
 use mathlib.Core.Bool.{true}
 use mathlib.Core.List.{List, [], ◌∷◌}
-use Prim.Native.Nat.{ℕ, zero, suc, ◌+◌, ◌*◌, ◌<◌, ◌≤◌}
+use Prim.Native.Nat.{ℕ, zero, suc, ◌+◌, ◌-◌, ◌*◌, ◌<◌, ◌≤◌}
 use native.Mathlib.Omega.{arith}
-use lib.ListN.{length, get_or, drop}
+use lib.ListN.{length, get_or, set, drop}
 use lib.Seq.{sets}
 use Rattle.laws.specs.Room.{Wrote}
-use Rattle.laws.proofs.Writes.{sets_append}
+use Rattle.laws.proofs.Writes.{sets_append, wrote_then}
 use Rattle.signals.specs.declared.Case.{Case}
+use Rattle.signals.specs.declared.Case.TheVariants.{Letters, Figures}
+use Rattle.signals.specs.declared.Row.{Row}
+use Rattle.signals.specs.Cases.{shift_to, other}
 use Rattle.signals.specs.Numbers.{first_not}
 use Rattle.signals.proofs.NumberLaws.{all_head}
 use Rattle.text.specs.Encoding.{has_signal, character_of, signals_for, case_after, encoded, ends_encoded}
+use Rattle.characters.specs.Holder.{HasRow}
+use Rattle.characters.proofs.CharacterLaws.{stands, shifts}
 use Rattle.text.proofs.WalkLaws.{all_next, length_next, ends_next, all_end, ends_end}
 use Rattle.text.proofs.EncodingLaws.{encoded_walk, encode_step, encode_after, encoded_le}
 
@@ -20,6 +25,32 @@ pub has_at : (s : List ℕ) (i : ℕ) → length s ≤ first_not has_signal s �
 has_at [] i a h = absurd (omega arith)
 has_at (x ∷ xs) zero a h = (all_head has_signal x xs a).0
 has_at (x ∷ xs) (suc i) a h = has_at xs i (all_head has_signal x xs a).1 (omega arith)
+
+other_than : (c d : Case) → (d ≡ c → ⊥) → d ≡ other c
+other_than Letters Letters n = absurd (n refl)
+other_than Letters Figures n = refl
+other_than Figures Letters n = refl
+other_than Figures Figures n = absurd (n refl)
+
+-- what is written with a byte's signals, of which the signal is the last: a shift stands before it where the case changes
+module _ (x : ℕ) (r : Row) (h : HasRow x r) (c d : Case) (is : d ≡ case_after c (character_of x)) (room : List ℕ) (at to : ℕ) (e : to ≡ at + length (signals_for c (character_of x))) where
+  pub put_two : (d ≡ c → ⊥) → Wrote room at (signals_for c (character_of x)) to (set (set room at (shift_to d)) (to - 1) r.0)
+  put_two n =
+      let o : d ≡ other c = other_than c d n in
+      let s : signals_for c (character_of x) ≡ shift_to d ∷ r.0 ∷ [] = shifts x r h c (sym is ∙ o) ∙ ap (λ (k : Case). shift_to k ∷ r.0 ∷ []) (sym o) in
+      let l : to ≡ at + 2 = e ∙ ap (λ (s : List ℕ). at + length s) s in
+      let p : to - 1 ≡ at + 1 = omega arith in
+      rw (s, p)
+      (wrote_then room at (shift_to d ∷ []) (r.0 ∷ []) (at + 1) to _ _
+      (record { ended = refl; holds = refl })
+      (record { ended = omega arith; holds = refl }))
+
+  pub put_one : d ≡ c → Wrote room at (signals_for c (character_of x)) to (set room (to - 1) r.0)
+  put_one o =
+      let s : signals_for c (character_of x) ≡ r.0 ∷ [] = stands x r h c (sym is ∙ o) in
+      let l : to ≡ at + 1 = e ∙ ap (λ (s : List ℕ). at + length s) s in
+      let p : to - 1 ≡ at = omega arith in
+      rw (s, p) (record { ended = l; holds = refl })
 
 -- Before the character i: `at` signals so far, and the case d in force.
 pub record Turning (text : List ℕ) (c : Case) (at : ℕ) (d : Case) (i : ℕ) : Type 0 where

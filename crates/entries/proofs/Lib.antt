@@ -1,5 +1,5 @@
 -- Laws that the proofs here share, and `passing`'s.
---     EntryLaws      what stands at a place of a record, by the bytes there
+--     EntryLaws      a text offer without a third word, and a kind that is none of the eight
 --     ReadBackLaws   a record is its entries as they are written, and what is left; entries that are written read back
 --     WalkLaws       the record from a place on, by the entry that is found there
 --     TellLaws       what an entry has the two stations print

@@ -14,6 +14,7 @@ use mathlib.Core.Path.{◌≡◌}
 use mathlib.Core.List.{List, [], ◌∷◌}
 use Prim.Native.Nat.{ℕ}
 use native.Mathlib.Omega.{arith}
+use Rattle.std.specs.Prelude.{Err}
 use Rattle.signals.specs.Meaning.{meaning_of, traffic_of}
 use Rattle.signals.specs.Numbers.{refused, first_not}
 use Rattle.text.specs.Printing.{printed, bytes_of}
@@ -22,10 +23,10 @@ use Rattle.mode_a.specs.Over.{listened}
 use Rattle.mode_a.specs.Answerback.{code_signals, holds_neither, passes, owed_exists}
 use Rattle.mode_a.specs.Step.{traffic_in, done, sound, stepping}
 use Rattle.runs.specs.Circuit.{after}
-use Rattle.entries.specs.declared.Passed.{Passed}
+use Rattle.entries.specs.declared.PassError.{PassError}
 use Rattle.entries.specs.Entries.{entry_of, read_past}
 use Rattle.entries.specs.Passage.{tells_all}
-use Rattle.entries.specs.Passing.{outcome_from, passing_from, said_passed, Passes}
+use Rattle.entries.specs.Passing.{outcome_from, passing_from, Passed, said_passed, Passes}
 
 -- the empty record, by whatever number
 pub no_refusing_passage : (r : Passed) (n v : ℕ) → said_passed r ≡ refused n v → Passes [] [] [] r [] [] → ⊥
@@ -42,7 +43,7 @@ pub no_byte_before_a_fault : (r : Passed) → Passes (3 ∷ 71 ∷ 71 ∷ 86 ∷
 unfolding passing_from outcome_from read_past entry_of tells_all after stepping sound owed_exists passes code_signals holds_neither done first_not is_block may_hold traffic_of meaning_of heard_of first_of is_words listened traffic_in printed bytes_of
 no_byte_before_a_fault r p = let z : ◌≡◌ {A = ℕ} 65 0 = cc p.2 in omega arith
 
-pub no_2_before_10 : Passes (3 ∷ 71 ∷ 71 ∷ 86 ∷ 2 ∷ 0 ∷ 1 ∷ 0 ∷ 9 ∷ []) [] [] (Passed.NoRoom 3) [] [] → ⊥
+pub no_2_before_10 : Passes (3 ∷ 71 ∷ 71 ∷ 86 ∷ 2 ∷ 0 ∷ 1 ∷ 0 ∷ 9 ∷ []) [] [] (Err (PassError.NoRoom 3)) [] [] → ⊥
 unfolding passing_from outcome_from read_past entry_of tells_all after stepping sound owed_exists passes code_signals holds_neither done first_not is_block may_hold traffic_of meaning_of heard_of first_of is_words listened traffic_in printed bytes_of
 no_2_before_10 p = let z : ◌≡◌ {A = ℕ} 2 10 = cc p.0 in omega arith
 
@@ -56,16 +57,16 @@ pub no_byte_before_refusal_2 : (r : Passed) → Passes (3 ∷ 71 ∷ 71 ∷ 86 �
 unfolding passing_from outcome_from read_past entry_of tells_all after stepping sound owed_exists passes code_signals holds_neither done first_not is_block may_hold traffic_of meaning_of heard_of first_of is_words listened traffic_in printed bytes_of
 no_byte_before_refusal_2 r p = let z : ◌≡◌ {A = ℕ} 65 0 = cc p.1 in omega arith
 
-pub no_slaves_room_first : Passes (3 ∷ 71 ∷ 71 ∷ 86 ∷ 2 ∷ 0 ∷ 6 ∷ 1 ∷ 0 ∷ 4 ∷ 71 ∷ 71 ∷ 51 ∷ 2 ∷ 0 ∷ 1 ∷ 0 ∷ 2 ∷ 0 ∷ 1 ∷ 0 ∷ 2 ∷ 0 ∷ []) [] [] (Passed.NoRoom 3) [] [] → ⊥
+pub no_slaves_room_first : Passes (3 ∷ 71 ∷ 71 ∷ 86 ∷ 2 ∷ 0 ∷ 6 ∷ 1 ∷ 0 ∷ 4 ∷ 71 ∷ 71 ∷ 51 ∷ 2 ∷ 0 ∷ 1 ∷ 0 ∷ 2 ∷ 0 ∷ 1 ∷ 0 ∷ 2 ∷ 0 ∷ []) [] [] (Err (PassError.NoRoom 3)) [] [] → ⊥
 unfolding passing_from outcome_from read_past entry_of tells_all after stepping sound owed_exists passes code_signals holds_neither done first_not is_block may_hold traffic_of meaning_of heard_of first_of is_words listened traffic_in printed bytes_of
 no_slaves_room_first p = let z : ◌≡◌ {A = ℕ} 3 2 = cc p.0 in omega arith
 
 -- a burst, and a byte that is no kind: it is the second entry, and stands at 2
-pub no_place_in_entries : (m s : List ℕ) → Passes (2 ∷ 0 ∷ 9 ∷ []) m s (Passed.UnknownKind 1) m s → ⊥
+pub no_place_in_entries : (m s : List ℕ) → Passes (2 ∷ 0 ∷ 9 ∷ []) m s (Err (PassError.UnknownKind 1)) m s → ⊥
 unfolding passing_from outcome_from read_past entry_of tells_all after stepping sound owed_exists passes code_signals holds_neither done first_not is_block may_hold traffic_of meaning_of heard_of first_of is_words listened traffic_in printed bytes_of
 no_place_in_entries m s p = let z : ◌≡◌ {A = ℕ} 1 2 = cc p.0 in omega arith
 
 -- bit 3 is set in the byte at 1, of the entry at 0
-pub no_place_of_the_body : (m s : List ℕ) → Passes (2 ∷ 8 ∷ []) m s (Passed.BadBurst 1) m s → ⊥
+pub no_place_of_the_body : (m s : List ℕ) → Passes (2 ∷ 8 ∷ []) m s (Err (PassError.BadBurst 1)) m s → ⊥
 unfolding passing_from outcome_from read_past entry_of tells_all after
 no_place_of_the_body m s p = let z : ◌≡◌ {A = ℕ} 1 0 = cc p.0 in omega arith

@@ -2,10 +2,9 @@
 use mathlib.Core.Path.{◌≡◌, refl, ap, sym, ◌∙◌}
 use mathlib.Core.Bool.{Bool, true, false, true≢false}
 use mathlib.Core.List.{List, [], ◌∷◌, ◌++◌, append-nil}
-use Prim.Native.Nat.{ℕ, ◌+◌, ◌≤◌}
-use native.Mathlib.Omega.{arith}
+use Prim.Native.Nat.{ℕ, ◌+◌}
 use lib.Dec.{eqb}
-use lib.ListN.{length, length-append}
+use lib.ListN.{length}
 use Rattle.std.specs.Prelude.{if◌then◌else◌}
 use Rattle.signals.specs.declared.Case.TheVariants.{Letters}
 use Rattle.signals.specs.Numbers.{Answer, answered, refused}
@@ -21,7 +20,7 @@ use Rattle.entries.specs.declared.Entry.{Entry}
 use Rattle.entries.specs.declared.Entry.TheVariants.{Burst, Text, Over, End}
 use Rattle.entries.specs.declared.Standing.{Standing}
 use Rattle.entries.specs.Entries.{other_role, same_role, written, Rest, nothing, unknown_kind, cut_short}
-use Rattle.entries.specs.Passage.{Passage, circuit_of, hearing, offering, event_of, answered_to, after_burst, after_offer, tells, fault_of, Outcome, told, fault, of_rest, tells_all, signals_of, text_of, printed_in}
+use Rattle.entries.specs.Passage.{Passage, circuit_of, offering, event_of, answered_to, after_burst, after_offer, tells, fault_of, Outcome, told, fault, tells_all, signals_of, text_of, printed_in}
 
 -- whose burst is on the way after a step, and after none
 pub turn_answered : (s : Standing) (r : Reply) → (answered_to s (answered r)).turn ≡ other_role s.turn
@@ -82,43 +81,15 @@ tells_prints p (Text r w) by = offer_prints p r (Offer.Text w) by ∙ sym (appen
 tells_prints p (Over r) by = offer_prints p r Offer.Over by ∙ sym (append-nil (signals_of p by))
 tells_prints p (End r) by = offer_prints p r Offer.End by ∙ sym (append-nil (signals_of p by))
 
--- a text only grows: by an entry, by all that follow, and so up to the end of a record that is told
+-- a text only grows
 pub text_more : (p q : Passage) (by : Role) (ws : List ℕ) → signals_of q by ≡ signals_of p by ++ ws →
     text_of q by ≡ text_of p by ++ printed (ends_printed Letters (signals_of p by)) ws
 text_more p q by ws e =
     ap (λ (l : List ℕ). printed Letters l) e ∙ all_append printed ends_printed bytes_of case_at printed_walk Letters (signals_of p by) ws
 
-pub text_grows : (p : Passage) (e : Entry) (by : Role) → length (text_of p by) ≤ length (text_of (tells p e) by)
-text_grows p e by =
-    omega (
-      arith,
-      ap (λ (l : List ℕ). length l) (text_more p (tells p e) by (told_more p e by) (tells_prints p e by)),
-      length-append (text_of p by) (printed (ends_printed Letters (signals_of p by)) (told_more p e by)),
-    )
-
--- the outcome told a passage
-abbrev passage_in : Passage → Outcome → Passage
-passage_in p (told q) = q
-passage_in p (fault n at) = p
-
 abbrev is_told : Outcome → Bool
 is_told (told q) = true
 is_told (fault n at) = false
-
-pub text_grows_all : (es : List Entry) (rest : Rest) (at : ℕ) (p q : Passage) (by : Role) → tells_all es rest at p ≡ told q →
-    length (text_of p by) ≤ length (text_of q by)
-unfolding tells_all
-text_grows_all [] nothing at p q by h = rw (ap (passage_in p) h) (omega arith)
-text_grows_all [] unknown_kind at p q by h = absurd (true≢false (sym (ap is_told h)))
-text_grows_all [] cut_short at p q by h = absurd (true≢false (sym (ap is_told h)))
-text_grows_all (e ∷ es) rest at p q by h =
-    by_fault (eqb (fault_of p.standing e) 0) (λ g. text_grows_all es rest (at + length (written e)) (tells p e) q by g) h
-  where
-    by_fault : (t : Bool) → (tells_all es rest (at + length (written e)) (tells p e) ≡ told q → length (text_of (tells p e) by) ≤ length (text_of q by)) →
-        (if t then tells_all es rest (at + length (written e)) (tells p e) else fault (fault_of p.standing e) at) ≡ told q →
-        length (text_of p by) ≤ length (text_of q by)
-    by_fault true later g = omega (arith, text_grows p e by, later g)
-    by_fault false later g = absurd (true≢false (sym (ap is_told g)))
 
 -- a record that is told to its end has nothing behind its last entry
 pub told_whole : (es : List Entry) (rest : Rest) (at : ℕ) (p q : Passage) → tells_all es rest at p ≡ told q → rest ≡ nothing

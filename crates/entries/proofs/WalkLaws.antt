@@ -6,9 +6,10 @@ use Prim.Native.Nat.{ℕ, ◌+◌, ◌≤◌, ◌<◌}
 use native.Mathlib.Omega.{arith}
 use lib.ListN.{length, drop, length-append, length-drop}
 use lib.Seq.{drop-drop, drop-append_seam}
+use Rattle.std.specs.Prelude.{Some, None, Ok, Err}
 use Rattle.entries.specs.declared.Entry.{Entry}
-use Rattle.entries.specs.declared.Read.{Read}
-use Rattle.entries.specs.Entries.{body_of, written, Begun, Rest, nothing, unknown_kind, cut_short, followed_by, record_of, found_at, found_in, Reads}
+use Rattle.entries.specs.declared.ReadError.{ReadError}
+use Rattle.entries.specs.Entries.{body_of, written, Begun, Rest, nothing, unknown_kind, cut_short, followed_by, record_of, Read, found_at, found_in, Reads}
 use Rattle.entries.specs.ReadBack.{ended}
 use Rattle.entries.proofs.ReadBackLaws.{Begins, an_entry, no_kind, no_body, begins, tail_read, record_written}
 
@@ -24,10 +25,10 @@ pub record Next (bytes : List ℕ) (at : ℕ) (e : Entry) (next : ℕ) : Type 0 
   pub reads : record_of (drop at bytes) ≡ followed_by e (record_of (drop next bytes))
 
 abbrev pub Walked : List ℕ → ℕ → Read → Type 0
-Walked bytes at (Read.Entry e next) = Next bytes at e next
-Walked bytes at Read.Nothing = Left bytes at nothing
-Walked bytes at Read.Unknown = Left bytes at unknown_kind
-Walked bytes at Read.Short = Left bytes at cut_short
+Walked bytes at (Ok (Some x)) = Next bytes at x.0 x.1
+Walked bytes at (Ok None) = Left bytes at nothing
+Walked bytes at (Err (ReadError.UnknownKind x)) = Left bytes at unknown_kind × (x ≡ at)
+Walked bytes at (Err (ReadError.CutShort x)) = Left bytes at cut_short × (x ≡ at)
 
 module _ (bytes : List ℕ) (at : ℕ) where
   walked_past : (e : Entry) (more : List ℕ) → drop at bytes ≡ written e ++ more → Next bytes at e (at + length (written e))
@@ -42,8 +43,8 @@ module _ (bytes : List ℕ) (at : ℕ) where
 
   walked_begun : (k : ℕ) (bs : List ℕ) → drop at bytes ≡ k ∷ bs → {g : Begun} → Begins k bs g → Walked bytes at (found_at g at)
   walked_begun k bs d (an_entry e w) = walked_past e (drop (length (body_of e)) bs) (d ∙ w)
-  walked_begun k bs d (no_kind t) = rw d (tail_read t)
-  walked_begun k bs d (no_body t) = rw d (tail_read t)
+  walked_begun k bs d (no_kind t) = (rw d (tail_read t), refl)
+  walked_begun k bs d (no_body t) = (rw d (tail_read t), refl)
 
   walked_in : (l : List ℕ) → drop at bytes ≡ l → Walked bytes at (found_in l at)
   walked_in [] d = rw d (tail_read ended)

@@ -1,12 +1,13 @@
 -- 02, T-07: "An entry is one byte of kind and a body whose length the kind fixes."  R-248, R-249
 -- Assumes nothing.
-use Rattle.std.specs.Prelude.{◌≡◌, Bool, true, false, List, [], ◌∷◌, ◌++◌, ℕ, zero, suc, ◌+◌, eqb, length, drop, if◌then◌else◌}
+use Rattle.std.specs.Prelude.{◌≡◌, Bool, true, false, List, [], ◌∷◌, ◌++◌, ℕ, zero, suc, ◌+◌, eqb, length, drop, if◌then◌else◌, Option, Some, None, Result, Ok, Err}
 use Rattle.mode_a.specs.declared.Role.{Role}
 use Rattle.mode_a.specs.declared.Role.TheVariants.{Master, Slave}
 use Rattle.mode_a.specs.Station.{words, list_of}
 use Rattle.entries.specs.declared.Entry.{Entry}
 use Rattle.entries.specs.declared.Entry.TheVariants.{Burst, Text, Over, End}
-use Rattle.entries.specs.declared.Read.{Read}
+use Rattle.entries.specs.declared.ReadError.{ReadError}
+use Rattle.entries.specs.declared.PassError.{PassError}
 
 -- the two stations
 abbrev pub other_role : Role → Role
@@ -106,15 +107,43 @@ read_past zero (b ∷ bs) = begun_by (entry_of b bs) (λ e. read_past (length (b
 abbrev pub record_of : List ℕ → Record
 record_of bs = read_past 0 bs
 
--- The reader's part: what stands at a place, and the place past it.
+-- The reader's part: the entry that a kind and the bytes behind it begin with, or why there is none; what stands at a place, and the place
+-- past it.
+abbrev pub read_of : Begun → ℕ → Result Entry ReadError
+read_of (entry e) at = Ok e
+read_of unknown at = Err (ReadError.UnknownKind at)
+read_of short at = Err (ReadError.CutShort at)
+
+abbrev pub Read : Type 0
+Read = Result (Option (Entry × ℕ)) ReadError
+
 abbrev pub found_at : Begun → ℕ → Read
-found_at (entry e) at = Read.Entry e (at + length (written e))
-found_at unknown at = Read.Unknown
-found_at short at = Read.Short
+found_at (entry e) at = Ok (Some (e, at + length (written e)))
+found_at unknown at = Err (ReadError.UnknownKind at)
+found_at short at = Err (ReadError.CutShort at)
 
 abbrev pub found_in : List ℕ → ℕ → Read
-found_in [] at = Read.Nothing
+found_in [] at = Ok None
 found_in (b ∷ bs) at = found_at (entry_of b bs) at
 
 abbrev pub Reads : List ℕ → ℕ → Read → Type 0
 Reads bytes at r = r ≡ found_in (drop at bytes) at
+
+-- of a reader, which then stands behind the entry, or where it stood
+abbrev pub read_to : Result (Option Entry) ReadError → ℕ → Read
+read_to (Ok (Some e)) past = Ok (Some (e, past))
+read_to (Ok None) past = Ok None
+read_to (Err x) past = Err x
+
+abbrev pub Stays : Result (Option Entry) ReadError → ℕ → ℕ → Type 0
+Stays (Ok (Some e)) at past = Unit {0}
+Stays (Ok None) at past = past ≡ at
+Stays (Err x) at past = past ≡ at
+
+abbrev pub ReadsOn : List ℕ → ℕ → Result (Option Entry) ReadError → List ℕ → ℕ → Type 0
+ReadsOn bytes at r bytes' past = Reads bytes at (read_to r past) × Stays r at past × (bytes' ≡ bytes)
+
+-- an error of the reader, as the call tells it
+abbrev pub told_as : ReadError → PassError
+told_as (ReadError.UnknownKind at) = PassError.UnknownKind at
+told_as (ReadError.CutShort at) = PassError.CutShort at

@@ -1,10 +1,11 @@
 -- 02, T-07: what `passing::passage` answers.  R-254, R-258
 -- Assumes nothing.
-use Rattle.std.specs.Prelude.{◌≡◌, List, ℕ, ltb, length, drop, if◌then◌else◌}
+use Rattle.std.specs.Prelude.{◌≡◌, List, ℕ, ltb, length, drop, if◌then◌else◌, Result, Ok, Err}
 use Rattle.laws.specs.Room.{over}
 use Rattle.signals.specs.Numbers.{Answer, answered, refused}
 use Rattle.mode_a.specs.declared.Role.TheVariants.{Master, Slave}
-use Rattle.entries.specs.declared.Passed.{Passed}
+use Rattle.entries.specs.declared.Printed.{Printed}
+use Rattle.entries.specs.declared.PassError.{PassError}
 use Rattle.entries.specs.Entries.{record_of}
 use Rattle.entries.specs.Passage.{Passage, begins, Outcome, told, fault, tells_all, text_of}
 
@@ -47,14 +48,17 @@ abbrev pub passing : List ℕ → ℕ → ℕ → Answer Texts
 passing bytes m s = passing_from bytes 0 m s
 
 -- each case of the answer, by its number and the value beside it  R-167
+abbrev pub Passed : Type 0
+Passed = Result Printed PassError
+
 abbrev pub said_passed : Passed → Answer Counts
-said_passed (Passed.Printed m s) = answered (record { master = m; slave = s })
-said_passed (Passed.UnknownKind at) = refused 10 at
-said_passed (Passed.CutShort at) = refused 11 at
-said_passed (Passed.BadBurst at) = refused 12 at
-said_passed (Passed.StillOffered at) = refused 13 at
-said_passed (Passed.BadWord at) = refused 3 at
-said_passed (Passed.NoRoom n) = refused 2 n
+said_passed (Ok p) = answered (record { master = p.master; slave = p.slave })
+said_passed (Err (PassError.UnknownKind at)) = refused 10 at
+said_passed (Err (PassError.CutShort at)) = refused 11 at
+said_passed (Err (PassError.BadBurst at)) = refused 12 at
+said_passed (Err (PassError.StillOffered at)) = refused 13 at
+said_passed (Err (PassError.BadWord at)) = refused 3 at
+said_passed (Err (PassError.NoRoom n)) = refused 2 n
 
 abbrev pub counted : Answer Texts → Answer Counts
 counted (answered t) = answered (record { master = length t.master; slave = length t.slave })

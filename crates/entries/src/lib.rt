@@ -2,8 +2,8 @@
 // entries mean is `specs/Lib.antt`.
 #![tactic(auto)]
 
-ghost use Rattle.std.specs.Prelude.{◌≡◌, ◌+◌, ◌<◌, length, drop};
-ghost use Rattle.entries.specs.Entries.{other_role, same_role, burst_of, text_to, found_at, Reads};
+ghost use Rattle.std.specs.Prelude.{◌≡◌, length};
+ghost use Rattle.entries.specs.Entries.{other_role, same_role, burst_of, text_to, entry_of, written, told_as, read_of, ReadsOn};
 
 use mode_a::{Offer, Role, Words};
 
@@ -16,17 +16,13 @@ pub enum Entry {
     End(Role),
 }
 
-// What stands at a place of a record.
-#[derive(Clone, Copy)]
-pub enum Read {
-    // The entry, and the place past it.
-    Entry(Entry, usize),
-    // No byte is left.
-    Nothing,
+// Why no entry stands at a place where a byte is left: the place.
+#[derive(Clone, Copy, PartialEq, Eq)]
+pub enum ReadError {
     // 10: a kind that is none of the eight.
-    Unknown,
+    UnknownKind(usize),
     // 11: a body cut short.
-    Short,
+    CutShort(usize),
 }
 
 // Whose burst is on the way, and the offer that stands for each station; Nothing where none does.
@@ -44,12 +40,17 @@ pub struct Reader<'a> {
     pub at: usize,
 }
 
-// What `passing::passage` answers.
-#[derive(Clone, Copy)]
-pub enum Passed {
-    // How many bytes the master printed, and the slave.
-    Printed { master: usize, slave: usize },
-    // Each of these with the place of the entry's kind byte. 10: an unknown kind.
+// How many bytes the master printed, and the slave.
+#[derive(Clone, Copy, PartialEq, Eq)]
+pub struct Printed {
+    pub master: usize,
+    pub slave: usize,
+}
+
+// Why `passing::passage` prints nothing. Each but the last has the place of the entry's kind byte.
+#[derive(Clone, Copy, PartialEq, Eq)]
+pub enum PassError {
+    // 10: an unknown kind.
     UnknownKind(usize),
     // 11: a body cut short.
     CutShort(usize),
@@ -61,6 +62,17 @@ pub enum Passed {
     BadWord(usize),
     // 2: the room is too short, the master's or else the slave's; the room needed.
     NoRoom(usize),
+}
+
+impl From<ReadError> for PassError {
+    ghost from_gives = { λ error e. e ≡ told_as error };
+
+    fn from(error: ReadError) -> PassError {
+        match error {
+            ReadError::UnknownKind(at) => PassError::UnknownKind(at),
+            ReadError::CutShort(at) => PassError::CutShort(at),
+        }
+    }
 }
 
 // The other station of the two.
@@ -76,61 +88,71 @@ pub fn other(role: Role) -> Role
 pub fn same(one: Role, role: Role) -> bool
     ensures { result ≡ same_role one role }
 {
-    match one {
-        Role::Master => match role {
-            Role::Master => true,
-            Role::Slave => false,
-        },
-        Role::Slave => match role {
-            Role::Master => false,
-            Role::Slave => true,
-        },
+    match (one, role) {
+        (Role::Master, Role::Master) | (Role::Slave, Role::Slave) => true,
+        _ => false,
     }
 }
 
-// A burst of this station, whose kind stands at `at`: its body is one byte.
-fn burst_at(bytes: &[u8], at: usize, role: Role) -> Read
-    requires { at < length bytes.now }
-    ensures { result ≡ found_at (burst_of role (drop (at + 1) bytes.now)) at }
+// A burst of this station, whose kind stands at `at` and has these bytes behind it: its body is one byte.
+fn burst(role: Role, behind: &[u8], at: usize) -> Result<Entry, ReadError>
+    ensures { result ≡ read_of (burst_of role behind.now) at }
 {
-    let body = at + 1;
-    if bytes.len() <= body {
-        return Read::Short;
+    match behind {
+        [damage, ..] => Ok(Entry::Burst(role, *damage)),
+        [] => Err(ReadError::CutShort(at)),
     }
-    Read::Entry(Entry::Burst(role, bytes[body]), body + 1)
 }
 
-// A text offer to this station, whose kind stands at `at`: its body is three words.
-fn text_at(bytes: &[u8], at: usize, role: Role) -> Read
-    requires { at < length bytes.now }
-    ensures { result ≡ found_at (text_to role (drop (at + 1) bytes.now)) at }
+// A text offer to this station, alike: its body is three words.
+fn text(role: Role, behind: &[u8], at: usize) -> Result<Entry, ReadError>
+    ensures { result ≡ read_of (text_to role behind.now) at }
 {
-    let body = at + 1;
-    if bytes.len() - body < 3 {
-        return Read::Short;
+    match behind {
+        [first, second, third, ..] => Ok(Entry::Text(role, Words(*first, *second, *third))),
+        _ => Err(ReadError::CutShort(at)),
     }
-    Read::Entry(
-        Entry::Text(role, Words(bytes[body], bytes[body + 1], bytes[body + 2])),
-        body + 3,
-    )
 }
 
-// The entry that begins at `at`: its kind, and behind it the body whose length the kind fixes.
-pub fn entry_at(bytes: &[u8], at: usize) -> Read
-    ensures { Reads bytes.now at result }
+// The entry of this kind, which stands at `at`: its body, whose length the kind fixes, is what the bytes behind the kind begin with.
+#[tactic(auto, unfolding(crate::specs::Entries::entry_of))]
+fn begun(kind: u8, behind: &[u8], at: usize) -> Result<Entry, ReadError>
+    ensures { result ≡ read_of (entry_of kind behind.now) at }
 {
-    if bytes.len() <= at {
-        return Read::Nothing;
+    match kind {
+        1 => burst(Role::Master, behind, at),
+        2 => burst(Role::Slave, behind, at),
+        3 => text(Role::Master, behind, at),
+        4 => text(Role::Slave, behind, at),
+        5 => Ok(Entry::Over(Role::Master)),
+        6 => Ok(Entry::Over(Role::Slave)),
+        7 => Ok(Entry::End(Role::Master)),
+        8 => Ok(Entry::End(Role::Slave)),
+        _ => Err(ReadError::UnknownKind(at)),
     }
-    match bytes[at] {
-        1 => burst_at(bytes, at, Role::Master),
-        2 => burst_at(bytes, at, Role::Slave),
-        3 => text_at(bytes, at, Role::Master),
-        4 => text_at(bytes, at, Role::Slave),
-        5 => Read::Entry(Entry::Over(Role::Master), at + 1),
-        6 => Read::Entry(Entry::Over(Role::Slave), at + 1),
-        7 => Read::Entry(Entry::End(Role::Master), at + 1),
-        8 => Read::Entry(Entry::End(Role::Slave), at + 1),
-        _ => Read::Unknown,
+}
+
+// How many bytes an entry takes, its kind among them.
+fn size(entry: Entry) -> usize
+    ensures { result ≡ length (written entry) }
+{
+    match entry {
+        Entry::Burst(..) => 2,
+        Entry::Text(..) => 4,
+        Entry::Over(_) | Entry::End(_) => 1,
+    }
+}
+
+impl<'a> Reader<'a> {
+    // The entry where the reader stands, which is then passed; or nothing, where no byte is left. Where none can be read the reader stays.
+    pub fn next_entry(&mut self) -> Result<Option<Entry>, ReadError>
+        ensures { ReadsOn self.old.bytes.now self.old.at result self.new.bytes.now self.new.at }
+    {
+        if self.bytes.len() <= self.at {
+            return Ok(None);
+        }
+        let entry = begun(self.bytes[self.at], &self.bytes[self.at + 1..], self.at)?;
+        self.at += size(entry);
+        Ok(Some(entry))
     }
 }

@@ -1,92 +1,61 @@
 // What the programs share beside `filters` (docs/FORMATS.md): fields as a record has them, and fields and names put into a line.
-// As in `numbers`, what puts answers the place past what it put, and a full line takes no more.
+// As in `numbers`, a full line takes no more.
 #![tactic(auto)]
 
-ghost use Rattle.std.specs.Prelude.{◌<◌};
-
-use mode_a::{Place, Reply, Station, Stepped};
+use mode_a::{Place, Refused, Reply};
+use numbers::Line;
 use signals::Case;
 
+// KEPT: a record's byte is taken modulo the number of cases, which is the records' rule (docs/FORMATS.md) and no conversion of `Case`: a
+// `From` would say no more, and would stand in `signals`, which knows of no records. So of `written`'s and `calls`' bytes.
 pub fn case_of(byte: u8) -> Case {
     if byte % 2 == 0 {
-        return Case::Letters;
+        Case::Letters
+    } else {
+        Case::Figures
     }
-    Case::Figures
 }
 
-pub fn put_case(line: &mut [u8], at: usize, case: Case) -> usize {
+pub fn put_case(line: &mut Line, case: Case) {
     match case {
-        Case::Letters => numbers::put_all(line, at, b" letters"),
-        Case::Figures => numbers::put_all(line, at, b" figures"),
+        Case::Letters => line.put_all(b" letters"),
+        Case::Figures => line.put_all(b" figures"),
     }
 }
 
 // A space and the number.
-pub fn put_number(line: &mut [u8], at: usize, number: u8) -> usize {
-    let to = numbers::put(line, at, 32);
-    numbers::put_number(line, to, number)
+pub fn put_number(line: &mut Line, number: u8) {
+    line.put(32);
+    line.put_number(number);
 }
 
-pub fn put_flag(line: &mut [u8], at: usize, flag: bool) -> usize {
-    if flag {
-        return numbers::put_all(line, at, b" 1");
-    }
-    numbers::put_all(line, at, b" 0")
+pub fn put_flag(line: &mut Line, flag: bool) {
+    line.put_all(if flag { b" 1" } else { b" 0" });
 }
 
-// The place's number in a record.
-pub fn place_no(place: Place) -> u64
-    ensures { result < 12 }
-{
+pub fn put_place(line: &mut Line, place: Place) {
     match place {
-        Place::Sending(_) => 0,
-        Place::Turning(_) => 1,
-        Place::Opening => 2,
-        Place::Ending(_) => 3,
-        Place::Receiving(_) => 4,
-        Place::Asking => 5,
-        Place::StandBy(_) => 6,
-        Place::Lost => 7,
-        Place::Calling(_) => 8,
-        Place::Calling3(_) => 9,
-        Place::Identifying(_) => 10,
-        Place::Answering(_) => 11,
-    }
-}
-
-pub fn put_place(line: &mut [u8], at: usize, place: Place) -> usize {
-    match place {
-        Place::Sending(_) => numbers::put_all(line, at, b"sending"),
-        Place::Turning(_) => numbers::put_all(line, at, b"turning"),
-        Place::Opening => numbers::put_all(line, at, b"opening"),
-        Place::Ending(_) => numbers::put_all(line, at, b"ending"),
-        Place::Receiving(_) => numbers::put_all(line, at, b"receiving"),
-        Place::Asking => numbers::put_all(line, at, b"asking"),
-        Place::StandBy(_) => numbers::put_all(line, at, b"standby"),
-        Place::Lost => numbers::put_all(line, at, b"lost"),
-        Place::Calling(_) => numbers::put_all(line, at, b"calling"),
-        Place::Calling3(_) => numbers::put_all(line, at, b"calling3"),
-        Place::Identifying(_) => numbers::put_all(line, at, b"identifying"),
-        Place::Answering(_) => numbers::put_all(line, at, b"answering"),
+        Place::Sending(_) => line.put_all(b"sending"),
+        Place::Turning(_) => line.put_all(b"turning"),
+        Place::Opening => line.put_all(b"opening"),
+        Place::Ending(_) => line.put_all(b"ending"),
+        Place::Receiving(_) => line.put_all(b"receiving"),
+        Place::Asking => line.put_all(b"asking"),
+        Place::StandBy(_) => line.put_all(b"standby"),
+        Place::Lost => line.put_all(b"lost"),
+        Place::Calling(_) => line.put_all(b"calling"),
+        Place::Calling3(_) => line.put_all(b"calling3"),
+        Place::Identifying(_) => line.put_all(b"identifying"),
+        Place::Answering(_) => line.put_all(b"answering"),
     }
 }
 
 // A step's answer. A refusal sends and prints nothing.
-pub fn reply_of(stepped: Stepped) -> Reply {
-    match stepped {
-        Stepped::Done(reply) => reply,
-        Stepped::BadStation(s) => silent(s),
-        Stepped::BadCode(s) => silent(s),
-        Stepped::BadWord(_, s) => silent(s),
-        Stepped::BadCall(_, s) => silent(s),
-    }
-}
-
-fn silent(s: Station) -> Reply {
-    Reply {
-        station: s,
+pub fn reply_of(stepped: Result<Reply, Refused>) -> Reply {
+    stepped.unwrap_or_else(|refused| Reply {
+        station: refused.station,
         sent: mode_a::SILENCE,
         printed: mode_a::SILENCE,
         taken: false,
-    }
+    })
 }

@@ -3,485 +3,311 @@
 // end, and the programs are run and compared; what is put into a room and how numbers are read is promised by `numbers`.
 #![tactic(auto)]
 
-ghost use Rattle.std.specs.Prelude.{◌≡◌};
+ghost use Rattle.std.specs.Prelude.{◌≡◌, ◌≤◌, length, IfOk, IfErr};
 ghost use Rattle.std.specs.Process.{exit_status};
 ghost use Rattle.filters.specs.Counts.{IsPrefixLen};
 ghost use Rattle.filters.specs.Statuses.{status_of};
 
-use numbers::{Event, Reader};
+use numbers::{Line, NumberError, Reader};
 use std::env::{Env, FillError};
 use std::io::{Read, Write};
 use std::process::ExitCode;
 
-// A program's two streams, which go through two rooms that it lends: in the input room the next byte and the place past the
-// last; in the output room the place past what waits to be written. Then the words that stand on the line that is written, and
-// how it stands: one of the four below. The system, which reads and writes, takes no bytes.
-#[derive(Clone, Copy)]
-pub struct Stream {
-    pub rt: HostRuntime,
-    pub next: usize,
-    pub end: usize,
-    pub waiting: usize,
-    pub column: usize,
-    pub state: u8,
-}
-
 // There may be more to read; the input is over; a read has failed; a write has failed. All but the first end the input.
-pub const GOING: u8 = 0;
-
-pub const OVER: u8 = 1;
-
-pub const UNREAD: u8 = 2;
-
-pub const UNWRITTEN: u8 = 3;
-
-// A byte of the input, if there is one more.
-#[derive(Clone, Copy)]
-struct Byte {
-    stream: Stream,
-    byte: u8,
-    more: bool,
+#[derive(Clone, Copy, PartialEq, Eq)]
+pub enum State {
+    Going,
+    Over,
+    Unread,
+    Unwritten,
 }
 
-// What the rest of a block brings, and the place of the next byte.
-#[derive(Clone, Copy)]
-struct Scanned {
+// A program's two streams, which go through two rooms that it lends: of the input room the next byte and the place past the
+// last; the reader of the numbers that the input lists; of the output room what waits to be written, and the words that stand on
+// the line that is written; and how it stands. The system, which reads and writes, takes no bytes.
+#[derive(Drop)]
+pub struct Stream<'a> {
+    pub rt: HostRuntime,
+    pub state: State,
+    input: &'a mut [u8],
     next: usize,
+    end: usize,
     reader: Reader,
-    event: Event,
+    output: Line<'a>,
+    column: usize,
+    ghost next_within: { next ≤ end },
+    ghost end_within: { end ≤ length input.now },
 }
 
-// What comes next: a number, something that is none, or nothing, where the input is over.
-#[derive(Clone, Copy)]
-pub struct Numbered {
-    pub stream: Stream,
-    pub reader: Reader,
-    pub event: Event,
-}
-
-// How many bytes stand in a room.
-#[derive(Clone, Copy)]
-pub struct Filled {
-    pub stream: Stream,
-    pub count: usize,
-}
-
-// How many numbers stand in a room, and what came behind them.
-#[derive(Clone, Copy)]
-pub struct Listed {
-    pub stream: Stream,
-    pub count: usize,
-    pub event: Event,
-}
-
-// The numbers of a program that takes one list of them: how many, and whether all is well. Where it is not, that was told, and the
-// program ends with the status.
-#[derive(Clone, Copy)]
-pub struct ListRead {
-    pub stream: Stream,
-    pub count: usize,
-    pub well: bool,
-    pub status: ExitCode,
-}
-
-fn brings(event: Event) -> bool {
-    match event {
-        Event::Nothing => false,
-        Event::Word(_) => true,
-        Event::Over(_) => true,
-        Event::NoDigit(_) => true,
+// Writes the bytes, unless a write has failed; answers how the stream then stands.
+fn write(rt: HostRuntime, state: State, bytes: &[u8]) -> State {
+    if state == State::Unwritten || rt.stdout().write_all(bytes).is_err() {
+        return State::Unwritten;
     }
+    state
 }
 
-// Reads on in a block, up to what its bytes bring; nothing where they end before. The reader goes field by field: as a struct it
-// would be copied at each byte, padding and all.
-fn scan(block: &[u8], from: usize, end: usize, before: Reader) -> Scanned {
-    let mut place = before.place;
-    let mut start = before.start;
-    let mut value = before.value;
-    let mut begun = before.begun;
-    let mut next = from;
-    if end <= block.len() {
-        while next < end {
-            let reader = Reader {
-                place: place,
-                start: start,
-                value: value,
-                begun: begun,
-            };
-            let took = reader.take(block[next]);
-            let after = took.reader;
-            let event = took.event;
-            next += 1;
-            if brings(event) {
-                return Scanned {
-                    next,
-                    reader: after,
-                    event,
-                };
-            }
-            place = after.place;
-            start = after.start;
-            value = after.value;
-            begun = after.begun;
-        }
-    }
-    Scanned {
-        next,
-        reader: Reader {
-            place: place,
-            start: start,
-            value: value,
-            begun: begun,
-        },
-        event: Event::Nothing,
-    }
-}
-
-// What the end of the input brings: a number that it ends. A read that failed is not the end, and what was begun before it no
-// number.
-fn end_brings(state: u8, reader: Reader) -> Event {
-    if state == UNREAD {
-        return Event::Nothing;
-    }
-    reader.end()
-}
-
-impl Stream {
-    pub fn new(rt: HostRuntime) -> Self {
+impl<'a> Stream<'a> {
+    // An output room that is too short for a word is as one that cannot be written, so that no byte is lost untold.
+    pub fn new(rt: HostRuntime, input: &'a mut [u8], output: &'a mut [u8]) -> Self {
+        let output = Line::new(output);
+        let state = if output.fits_word() {
+            State::Going
+        } else {
+            State::Unwritten
+        };
         Stream {
-            rt: rt,
+            rt,
+            state,
+            input,
             next: 0,
             end: 0,
-            waiting: 0,
+            reader: Reader::new(),
+            output,
             column: 0,
-            state: GOING,
         }
     }
 
-    fn with_input(self, next: usize, end: usize, state: u8) -> Self {
-        Stream {
-            rt: self.rt,
-            next: next,
-            end: end,
-            waiting: self.waiting,
-            column: self.column,
-            state: state,
-        }
-    }
-
-    fn with_output(self, waiting: usize, column: usize, state: u8) -> Self {
-        Stream {
-            rt: self.rt,
-            next: self.next,
-            end: self.end,
-            waiting: waiting,
-            column: column,
-            state: state,
-        }
-    }
-
-    // Writes the first of the bytes, unless a write has failed; then nothing waits.
-    fn write(self, bytes: &[u8], count: usize) -> Self {
-        if self.state != UNWRITTEN {
-            if write_first(&mut self.rt.stdout(), bytes, count) {
-                return self.with_output(0, self.column, self.state);
-            }
-        }
-        self.with_output(0, self.column, UNWRITTEN)
-    }
-
-    // Writes what waits. In a room that is too short for a word it fails, so that no byte is lost untold.
-    fn flush(self, output: &[u8]) -> Self {
-        if numbers::fits_word(output, 0) {
-            return self.write(output, self.waiting);
-        }
-        self.with_output(0, self.column, UNWRITTEN)
+    // Writes what waits.
+    fn flush(&mut self) {
+        self.state = write(self.rt, self.state, self.output.bytes());
+        self.output.at = 0;
     }
 
     // Reads the next block, after what waits is written: an empty one where the input is over, a read fails, as it does in an
     // empty room, or a write has failed.
-    fn refill(self, input: &mut [u8], output: &[u8]) -> Self {
-        let stream = self.flush(output);
-        if stream.state != GOING {
-            return stream.with_input(0, 0, stream.state);
+    fn refill(&mut self) {
+        self.flush();
+        self.next = 0;
+        self.end = 0;
+        if self.state != State::Going {
+            return;
         }
-        if input.len() == 0 {
-            return stream.with_input(0, 0, UNREAD);
+        if self.input.is_empty() {
+            self.state = State::Unread;
+            return;
         }
-        match self.rt.stdin().read(input) {
-            Err(_) => stream.with_input(0, 0, UNREAD),
-            Ok(count) => {
-                if count == 0 {
-                    return stream.with_input(0, 0, OVER);
-                }
-                stream.with_input(0, count, GOING)
-            }
-        }
-    }
-
-    // The next byte of the block.
-    fn byte_of(self, block: &[u8]) -> Byte {
-        let next = self.next;
-        if next < self.end {
-            if next < block.len() {
-                return Byte {
-                    stream: self.with_input(next + 1, self.end, self.state),
-                    byte: block[next],
-                    more: true,
-                };
-            }
-        }
-        Byte {
-            stream: self,
-            byte: 0,
-            more: false,
+        match self.rt.stdin().read(self.input) {
+            Ok(0) => self.state = State::Over,
+            Ok(count) => self.end = count,
+            Err(_) => self.state = State::Unread,
         }
     }
 
-    // The next byte of the input.
-    fn byte(self, input: &mut [u8], output: &[u8]) -> Byte {
-        if self.next < self.end {
-            return self.byte_of(input);
+    // The next byte of the input, if there is one more.
+    fn byte(&mut self) -> Option<u8> {
+        if self.next == self.end {
+            self.refill();
         }
-        self.refill(input, output).byte_of(input)
+        if self.next == self.end {
+            return None;
+        }
+        let byte = self.input[self.next];
+        self.next += 1;
+        Some(byte)
     }
 
-    // Puts the bytes that come next into the room, `most` at most; fewer where the input ends.
-    pub fn record(self, input: &mut [u8], output: &[u8], room: &mut [u8], most: usize) -> Filled
-        ensures { IsPrefixLen result.count room.new }
+    // Puts the bytes that come next into the room, until it is full or the input ends; answers how many.
+    pub fn record(&mut self, room: &mut [u8]) -> usize
+        ensures { IsPrefixLen result room.new }
     {
-        let mut stream = self;
-        let mut count = 0;
-        while count < room.len() {
-            if count == most {
-                return Filled { stream, count };
+        for (count, place) in room.iter_mut().enumerate() {
+            match self.byte() {
+                Some(byte) => *place = byte,
+                None => return count,
             }
-            let got = stream.byte(input, output);
-            stream = got.stream;
-            if !got.more {
-                return Filled { stream, count };
-            }
-            room[count] = got.byte;
-            count += 1;
         }
-        Filled { stream, count }
+        room.len()
     }
 
-    // The next number of the input. The end brings what was begun, and that once: the reader is then a new one.
-    pub fn number(self, before: Reader, input: &mut [u8], output: &[u8]) -> Numbered {
-        let mut stream = self;
-        let mut reader = before;
+    // Reads on in the block, up to what its bytes bring; nothing where they end before.
+    fn scan(&mut self) -> Result<Option<u8>, NumberError> {
+        let mut reader = self.reader;
+        for (count, &byte) in self.input[self.next..self.end].iter().enumerate() {
+            let took = reader.take(byte);
+            if took != Ok(None) {
+                self.reader = reader;
+                self.next += count + 1;
+                return took;
+            }
+        }
+        self.reader = reader;
+        self.next = self.end;
+        Ok(None)
+    }
+
+    // The next number of the input, if there is one more. The end brings what was begun, and that once; a read that failed is not
+    // the end, and what was begun before it no number.
+    pub fn number(&mut self) -> Result<Option<u8>, NumberError> {
         for _ in 0..u64::MAX {
-            let scanned = scan(input, stream.next, stream.end, reader);
-            let event = scanned.event;
-            reader = scanned.reader;
-            stream = stream.with_input(scanned.next, stream.end, stream.state);
-            if brings(event) {
-                return Numbered {
-                    stream,
-                    reader,
-                    event,
-                };
+            let found = self.scan()?;
+            if found.is_some() {
+                return Ok(found);
             }
-            stream = stream.refill(input, output);
-            if stream.end == 0 {
-                return Numbered {
-                    stream,
-                    reader: Reader::new(),
-                    event: end_brings(stream.state, reader),
-                };
+            self.refill();
+            if self.end == 0 {
+                let reader = self.reader;
+                self.reader = Reader::new();
+                return Ok(if self.state == State::Unread {
+                    None
+                } else {
+                    reader.end()
+                });
             }
         }
-        Numbered {
-            stream,
-            reader,
-            event: Event::Nothing,
-        }
+        Ok(None)
     }
 
-    // Puts the numbers that come next into the room, until it is full, the input ends, or something is no number.
-    pub fn numbers(self, input: &mut [u8], output: &[u8], room: &mut [u8]) -> Listed
-        ensures { IsPrefixLen result.count room.new }
+    // Puts the numbers that come next into the room, until it is full or the input ends; answers how many.
+    fn numbers(&mut self, room: &mut [u8]) -> Result<usize, NumberError>
+        ensures { IfOk result (λ n. IsPrefixLen n room.new) }
     {
-        let mut stream = self;
-        let mut reader = Reader::new();
-        let mut count = 0;
-        while count < room.len() {
-            let next = count + 1;
-            let got = stream.number(reader, input, output);
-            let event = got.event;
-            stream = got.stream;
-            reader = got.reader;
-            match event {
-                Event::Word(word) => {
-                    room[count] = word;
-                    count = next;
-                }
-                Event::Nothing | Event::Over(_) | Event::NoDigit(_) => {
-                    return Listed {
-                        stream,
-                        count,
-                        event,
-                    };
-                }
+        for (count, place) in room.iter_mut().enumerate() {
+            match self.number()? {
+                Some(word) => *place = word,
+                None => return Ok(count),
             }
         }
-        Listed {
-            stream,
-            count,
-            event: Event::Nothing,
-        }
+        Ok(room.len())
     }
 
-    // Where there is no room for so many bytes more, what waits is written.
-    fn with_room(self, output: &[u8], bytes: usize) -> Self {
-        if has_room(output, self.waiting, bytes) {
-            return self;
-        }
-        self.flush(output)
+    // Reads the list of a program that takes no words, as `numbers` does; what is no number and a failed read are told.
+    pub fn list(&mut self, name: &[u8], room: &mut [u8]) -> Result<usize, ExitCode>
+        ensures count { IfOk result (λ n. IsPrefixLen n room.new) }
+        ensures told { IfErr result (λ status. exit_status status ≡ 1) }
+    {
+        let rt = self.rt;
+        let count = self
+            .numbers(room)
+            .map_err(|error| tell_number(rt, name, error))?;
+        self.check(name)?;
+        Ok(count)
+    }
+
+    // Whether so many bytes more fit behind those that wait.
+    fn has_room(&self, bytes: usize) -> bool {
+        self.output.at <= self.output.room.len() && bytes <= self.output.room.len() - self.output.at
     }
 
     // The bytes; those that no room takes are written at once.
-    pub fn put_all(self, output: &mut [u8], bytes: &[u8]) -> Self {
-        let stream = self.with_room(output, bytes.len());
-        if has_room(output, stream.waiting, bytes.len()) {
-            let at = numbers::put_all(output, stream.waiting, bytes);
-            return stream.with_output(at, stream.column, stream.state);
+    pub fn put_all(&mut self, bytes: &[u8]) {
+        if !self.has_room(bytes.len()) {
+            self.flush();
         }
-        stream.write(bytes, bytes.len())
+        if self.has_room(bytes.len()) {
+            self.output.put_all(bytes);
+        } else {
+            self.state = write(self.rt, self.state, bytes);
+        }
     }
 
     // The first `count` of the bytes.
-    pub fn put_line(self, output: &mut [u8], line: &[u8], count: usize) -> Self {
-        if line.len() < count {
-            return self.put_all(output, line);
-        }
-        self.put_all(output, &line[..count])
+    pub fn put_first(&mut self, bytes: &[u8], count: usize) {
+        self.put_all(&bytes[..count.min(bytes.len())]);
+    }
+
+    // What stands on the line, and its end.
+    pub fn put_line(&mut self, mut line: Line) {
+        line.put(10);
+        self.put_all(line.bytes());
     }
 
     // A word as it is written, sixteen to a line.
-    pub fn put_word(self, output: &mut [u8], word: u8) -> Self {
-        if numbers::fits_word(output, self.waiting) {
-            return self.store_word(output, word);
+    pub fn put_word(&mut self, word: u8) {
+        if !self.output.fits_word() {
+            self.flush();
         }
-        self.flush(output).store_word(output, word)
-    }
-
-    fn store_word(self, output: &mut [u8], word: u8) -> Self {
-        let put = numbers::put_word(output, self.waiting, self.column, word);
-        self.with_output(put.at, put.column, self.state)
+        self.column = self.output.put_word(self.column, word);
     }
 
     // Ends the line of words, if one has been begun.
-    pub fn end_line(self, output: &mut [u8]) -> Self {
-        if self.column == 0 {
-            return self;
+    pub fn end_line(&mut self) {
+        if self.column != 0 {
+            self.put_all(b"\n");
+            self.column = 0;
         }
-        let stream = self.put_all(output, b"\n");
-        stream.with_output(stream.waiting, 0, stream.state)
     }
 
-    // Whether a read has failed, which is told: what was read is then not the whole input.
-    pub fn failed(self, name: &[u8]) -> bool {
-        if self.state == UNREAD {
-            tell(self.rt, name, b"cannot read standard input");
-            return true;
+    // A read that has failed is told: what was read is then not the whole input.
+    pub fn check(&self, name: &[u8]) -> Result<(), ExitCode>
+        ensures { IfErr result (λ status. exit_status status ≡ 1) }
+    {
+        if self.state == State::Unread {
+            return Err(tell(self.rt, name, b"cannot read standard input"));
         }
-        false
+        Ok(())
     }
 
-    // Writes what waits; answers whether all was read and written, and tells what has failed.
-    pub fn finish(self, output: &[u8], name: &[u8]) -> bool {
-        let stream = self.flush(output);
-        if stream.state == UNWRITTEN {
-            tell(self.rt, name, b"cannot write standard output");
-            return false;
+    // Writes what waits; a write or a read that has failed is told.
+    pub fn finish(&mut self, name: &[u8]) -> Result<(), ExitCode>
+        ensures { IfErr result (λ status. exit_status status ≡ 1) }
+    {
+        self.flush();
+        if self.state == State::Unwritten {
+            return Err(tell(self.rt, name, b"cannot write standard output"));
         }
-        !stream.failed(name)
+        self.check(name)
     }
 }
 
-// Whether so many bytes more fit behind those that wait.
-fn has_room(output: &[u8], waiting: usize, bytes: usize) -> bool {
-    if output.len() < waiting {
-        return false;
-    }
-    bytes <= output.len() - waiting
-}
-
-// Writes the first bytes of a room; answers whether they were written.
-fn write_first(to: &mut impl Write, room: &[u8], count: usize) -> bool {
-    if room.len() < count {
-        return false;
-    }
-    to.write_all(&room[..count]).is_ok()
-}
-
-// A number's decimal digits. As in `numbers`, what puts into a line answers the place past what it put, and a full line takes no
-// more.
-pub fn put_decimal(line: &mut [u8], at: usize, number: u64) -> usize {
+// A number's decimal digits.
+pub fn put_decimal(line: &mut Line, number: u64) {
     let mut digits = itoa::Buffer::new();
-    numbers::put_all(line, at, digits.format(number).as_bytes())
+    line.put_all(digits.format(number).as_bytes());
 }
 
-// The status of a program (docs/FORMATS.md) that has told nothing where all is well, and else has told what is not.
-pub fn status(well: bool) -> ExitCode
-    ensures { exit_status result ≡ status_of well }
+// The status of a program (docs/FORMATS.md): 0, or that of what it has told.
+pub fn status(done: Result<(), ExitCode>) -> ExitCode
+    ensures { exit_status result ≡ status_of done }
 {
-    if well {
-        return ExitCode::SUCCESS;
+    match done {
+        Ok(()) => ExitCode::SUCCESS,
+        Err(status) => status,
     }
+}
+
+// Writes the line to standard error at once, so that programs of a pipe do not write into each other's; where that fails, it is told
+// nowhere. Answers the status that the program then ends with.
+fn tell_line(rt: HostRuntime, mut line: Line) -> ExitCode
+    ensures { exit_status result ≡ 1 }
+{
+    line.put(10);
+    let _ = rt.stderr().write_all(line.bytes());
     ExitCode::FAILURE
 }
 
-// The status of a program that has words and does nothing.
-pub fn not_run() -> ExitCode
-    ensures { exit_status result ≡ 2 }
-{
-    ExitCode::from(2)
-}
-
-// Writes the line to standard error at once, so that programs of a pipe do not write into each other's. Where that fails, it is told
-// nowhere.
-fn write_line(rt: HostRuntime, line: &mut [u8], at: usize) {
-    let end = numbers::put(line, at, 10);
-    write_first(&mut rt.stderr(), line, end);
-}
-
-// Tells the words on a line of standard error, behind the program's name. The line has room for what is told here. What tells answers
-// the status that the program then ends with.
+// Tells the words on a line of standard error, behind the program's name. The line has room for what is told here.
 pub fn tell(rt: HostRuntime, name: &[u8], words: &[u8]) -> ExitCode
     ensures { exit_status result ≡ 1 }
 {
-    let mut line = [0u8; 160];
-    let mut at = numbers::put_all(&mut line, 0, name);
-    at = numbers::put_all(&mut line, at, b": ");
-    at = numbers::put_all(&mut line, at, words);
-    write_line(rt, &mut line, at);
-    ExitCode::FAILURE
+    let mut room = [0u8; 160];
+    let mut line = Line::new(&mut room);
+    line.put_all(name);
+    line.put_all(b": ");
+    line.put_all(words);
+    tell_line(rt, line)
 }
 
 // Tells the words with a value between them.
 pub fn tell_value(rt: HostRuntime, name: &[u8], before: &[u8], value: u64, after: &[u8]) -> ExitCode
     ensures { exit_status result ≡ 1 }
 {
-    let mut line = [0u8; 160];
-    let mut at = numbers::put_all(&mut line, 0, name);
-    at = numbers::put_all(&mut line, at, b": ");
-    at = numbers::put_all(&mut line, at, before);
-    at = put_decimal(&mut line, at, value);
-    at = numbers::put_all(&mut line, at, after);
-    write_line(rt, &mut line, at);
-    ExitCode::FAILURE
+    let mut room = [0u8; 160];
+    let mut line = Line::new(&mut room);
+    line.put_all(name);
+    line.put_all(b": ");
+    line.put_all(before);
+    put_decimal(&mut line, value);
+    line.put_all(after);
+    tell_line(rt, line)
 }
 
 // The number and the value of a refusal.
-pub fn put_refusal(line: &mut [u8], at: usize, number: u8, value: u64) -> usize {
-    let mut to = numbers::put_all(line, at, b"refused ");
-    to = numbers::put_number(line, to, number);
-    to = numbers::put(line, to, 32);
-    put_decimal(line, to, value)
+pub fn put_refusal(line: &mut Line, number: u8, value: u64) {
+    line.put_all(b"refused ");
+    line.put_number(number);
+    line.put(32);
+    put_decimal(line, value);
 }
 
 // Tells a refusal: its number and value, and then in words, the value between `before` and `after`.
@@ -495,82 +321,52 @@ pub fn tell_refusal(
 ) -> ExitCode
     ensures { exit_status result ≡ 1 }
 {
-    let mut line = [0u8; 160];
-    let mut at = numbers::put_all(&mut line, 0, name);
-    at = numbers::put_all(&mut line, at, b": ");
-    at = put_refusal(&mut line, at, number, value);
-    at = numbers::put_all(&mut line, at, b": ");
-    at = numbers::put_all(&mut line, at, before);
-    at = put_decimal(&mut line, at, value);
-    at = numbers::put_all(&mut line, at, after);
-    write_line(rt, &mut line, at);
-    ExitCode::FAILURE
+    let mut room = [0u8; 160];
+    let mut line = Line::new(&mut room);
+    line.put_all(name);
+    line.put_all(b": ");
+    put_refusal(&mut line, number, value);
+    line.put_all(b": ");
+    line.put_all(before);
+    put_decimal(&mut line, value);
+    line.put_all(after);
+    tell_line(rt, line)
 }
 
-// Tells what is no number; answers whether there was such.
-pub fn tell_number(rt: HostRuntime, name: &[u8], event: Event) -> bool {
-    match event {
-        Event::Nothing => false,
-        Event::Word(_) => false,
-        Event::Over(place) => {
-            tell_value(rt, name, b"not a number at ", place, b": over 255");
-            true
+// Tells what is no number.
+pub fn tell_number(rt: HostRuntime, name: &[u8], error: NumberError) -> ExitCode
+    ensures { exit_status result ≡ 1 }
+{
+    match error {
+        NumberError::Over(place) => {
+            tell_value(rt, name, b"not a number at ", place, b": over 255")
         }
-        Event::NoDigit(place) => {
+        NumberError::NoDigit(place) => {
             tell_value(
                 rt,
                 name,
                 b"not a number at ",
                 place,
                 b": a byte that is no digit",
-            );
-            true
+            )
         }
     }
 }
 
-// Whether words were handed to a program that takes none, which is told.
-pub fn has_words(rt: HostRuntime, name: &[u8]) -> bool {
+// Words handed to a program that takes none are told, and it does nothing.
+pub fn no_words(rt: HostRuntime, name: &[u8]) -> Result<(), ExitCode>
+    ensures { IfErr result (λ status. exit_status status ≡ 2) }
+{
     // a first word that the room does not take is one too
     if let Err(FillError::NotPresent) = rt.arg(1, &mut [0u8; 1]) {
-        return false;
+        return Ok(());
     }
-    let mut line = [0u8; 160];
-    let mut at = numbers::put_all(&mut line, 0, name);
-    at = numbers::put_all(&mut line, at, b": usage: ./telex ");
-    at = numbers::put_all(&mut line, at, name);
-    at = numbers::put_all(&mut line, at, b" < input");
-    write_line(rt, &mut line, at);
-    true
-}
-
-// Reads the list of a program that takes no words: words, what is no number and a failed read are told, in this order.
-pub fn list(
-    rt: HostRuntime,
-    name: &[u8],
-    input: &mut [u8],
-    output: &[u8],
-    room: &mut [u8],
-) -> ListRead
-    ensures { IsPrefixLen result.count room.new }
-{
-    if has_words(rt, name) {
-        return ListRead {
-            stream: Stream::new(rt),
-            count: 0,
-            well: false,
-            status: not_run(),
-        };
-    }
-    let read = Stream::new(rt).numbers(input, output, room);
-    let count = read.count;
-    let stream = read.stream;
-    let event = read.event;
-    let well = !tell_number(rt, name, event) && !stream.failed(name);
-    ListRead {
-        stream,
-        count,
-        well,
-        status: status(well),
-    }
+    let mut room = [0u8; 160];
+    let mut line = Line::new(&mut room);
+    line.put_all(name);
+    line.put_all(b": usage: ./telex ");
+    line.put_all(name);
+    line.put_all(b" < input");
+    tell_line(rt, line);
+    Err(ExitCode::from(2))
 }

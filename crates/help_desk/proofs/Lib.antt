@@ -1,3 +1,3 @@
 -- Laws that the proofs of this crate share.
---     RefusalLaws   the refusals of the question, by what `refusals` judges
+--     RefusalLaws   the question is refused as the step is, and else answered
 mod RefusalLaws

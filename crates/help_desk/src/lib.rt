@@ -2,20 +2,10 @@
 #![tactic(auto)]
 
 ghost use Rattle.std.specs.Prelude.{◌≡◌, leb};
-ghost use Rattle.mode_a.specs.Answerback.{passes};
 ghost use Rattle.reasons.specs.Reasons.{reason_of, Explains};
 
-use mode_a::{Offer, Place, Station, Words};
-use reasons::{Reason, Why};
-
-// Whether the code passes: refusal 9 where not.
-fn code_passes(s: Station) -> bool
-    ensures { result ≡ passes s.own.code }
-{
-    let own = s.own;
-    let code = own.code;
-    answerback::passes(code)
-}
+use mode_a::{Offer, Place, Refusal, Station, Words};
+use reasons::Reason;
 
 // Whether one more repetition is the 32nd.
 fn late(count: u8) -> bool
@@ -72,25 +62,10 @@ fn reason(s: Station, burst: Words, offer: Offer) -> Reason
 
 // The reason for a station's answer to `burst`, with `offer` (02, T-08): the first of 02's list that holds. Refuses 8, then 4, then 9, then 3,
 // where the step of the same station, burst and offer is refused, by the same number and with the same value.
-#[tactic(auto, using(crate::proofs::RefusalLaws::explained))]
-pub fn why(s: Station, burst: Words, offer: Offer) -> Why
+#[tactic(auto, using(crate::proofs::RefusalLaws::refused_lem))]
+pub fn why(s: Station, burst: Words, offer: Offer) -> Result<Reason, Refusal>
     ensures { Explains s burst offer result }
 {
-    let outside = refusals::bad_call(s, offer);
-    let sound = refusals::sound(s);
-    let passes = code_passes(s);
-    let bad = refusals::bad_offer(offer);
-    if outside < refusals::SIGNALS {
-        return Why::BadCall(outside);
-    }
-    if !sound {
-        return Why::BadStation;
-    }
-    if !passes {
-        return Why::BadCode;
-    }
-    if bad < 3 {
-        return Why::BadWord(bad);
-    }
-    Why::Because(reason(s, burst, offer))
+    refusals::judged(s, offer)?;
+    Ok(reason(s, burst, offer))
 }

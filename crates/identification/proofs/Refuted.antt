@@ -27,6 +27,7 @@ use mathlib.Core.Bool.{true, false, true≢false, false≢true}
 use Prim.Native.Nat.{ℕ, ◌≤◌}
 use native.Mathlib.Omega.{arith}
 use lib.Dec.{eqb}
+use Rattle.std.specs.Prelude.{Ok}
 use Rattle.signals.specs.declared.Case.TheVariants.{Letters}
 use Rattle.signals.specs.Meaning.{meaning_of, traffic_of, word_no, cs1, cs3, cs4, rq, alpha}
 use Rattle.signals.specs.Numbers.{Answer, answered, refused, first_not}
@@ -47,7 +48,6 @@ use Rattle.mode_a.specs.declared.Place.TheVariants.{Turning, Receiving, Calling3
 use Rattle.mode_a.specs.declared.Offer.{Offer}
 use Rattle.mode_a.specs.declared.Station.{Station}
 use Rattle.mode_a.specs.declared.Reply.{Reply}
-use Rattle.mode_a.specs.declared.Stepped.{Stepped}
 use Rattle.mode_a.specs.Calls.{is_callable, call3_block1, call3_block2, call3_block3, next_block3}
 use Rattle.mode_a.specs.Identification.{identity_block, told_in, with_1}
 use Rattle.mode_a.specs.Station.{words, single, silence, RQ×3, ααα, resting, no_seven, no_code, fresh_at}
@@ -126,13 +126,13 @@ no_wrong_seven_called e = false≢true e
 abbrev called128 : Station
 called128 = at (Calling3 (record { to = PEARDBY; sent = 128 })) 0 Nobody
 
-pub no_call_of_129_bursts_of_three : (r : Reply) → is_calling3 r.station.place ≡ true → Steps called128 silence Offer.Nothing (Stepped.Done r) → ⊥
+pub no_call_of_129_bursts_of_three : (r : Reply) → is_calling3 r.station.place ≡ true → Steps called128 silence Offer.Nothing (Ok r) → ⊥
 unfolding stepping sound owed_exists passes code_signals holds_neither done first_not is_block may_hold traffic_of meaning_of heard_of first_of further_of is_words call_of call3_of told_in next_block3 is_callable is_callable7 same_seven is_identity check_sum number_of signal_of
 no_call_of_129_bursts_of_three r e p =
     true≢false (sym e ∙ ap (λ (a : Answer Reply). is_calling3 (station_after called128 a).place) p.0)
 
 -- the last step of the wait
-pub no_barred_call_in_the_wait : (r : Reply) → r.taken ≡ true → Steps (at (resting 1) 0 (Barred PEARDBY)) silence (Offer.Call3 PEARDBY) (Stepped.Done r) → ⊥
+pub no_barred_call_in_the_wait : (r : Reply) → r.taken ≡ true → Steps (at (resting 1) 0 (Barred PEARDBY)) silence (Offer.Call3 PEARDBY) (Ok r) → ⊥
 unfolding stepping sound owed_exists passes code_signals holds_neither done first_not is_block may_hold traffic_of meaning_of heard_of first_of further_of is_words call_of call3_of told_in next_block3 is_callable is_callable7 same_seven is_identity check_sum number_of signal_of
 no_barred_call_in_the_wait r e p = true≢false (sym e ∙ ap is_taken p.0)
 
@@ -141,7 +141,7 @@ abbrev tells : Stage → ℕ → ℕ → Place
 tells g k w = Identifying (record { to = PEARDBY; stage = g; wrong = k; last = w })
 
 -- X was the fourth, and V is heard
-pub no_block_a_sixth_time : (r : Reply) → r.sent ≡ identity_block own7 Stage.One → Steps (at (tells Stage.One 4 (word_no 24)) 4 Nobody) (single (word_no 22)) Offer.Nothing (Stepped.Done r) → ⊥
+pub no_block_a_sixth_time : (r : Reply) → r.sent ≡ identity_block own7 Stage.One → Steps (at (tells Stage.One 4 (word_no 24)) 4 Nobody) (single (word_no 22)) Offer.Nothing (Ok r) → ⊥
 unfolding stepping sound owed_exists passes code_signals holds_neither done first_not is_block may_hold traffic_of meaning_of heard_of first_of further_of is_words call_of call3_of told_in next_block3 is_callable is_callable7 same_seven is_identity check_sum number_of signal_of
 no_block_a_sixth_time r e p =
     true≢false (sent_is _ r (identity_block own7 Stage.One) e p.0)
@@ -149,12 +149,12 @@ no_block_a_sixth_time r e p =
 same_wrong : (i j : Identified) → Identifying i ≡ Identifying j → i.wrong ≡ j.wrong
 same_wrong i j n = cc
 
-pub no_wrong_counted_when_damaged : (r : Reply) → r.station.place ≡ tells Stage.One 1 0 → Steps (at (tells Stage.One 0 0) 0 Nobody) silence Offer.Nothing (Stepped.Done r) → ⊥
+pub no_wrong_counted_when_damaged : (r : Reply) → r.station.place ≡ tells Stage.One 1 0 → Steps (at (tells Stage.One 0 0) 0 Nobody) silence Offer.Nothing (Ok r) → ⊥
 unfolding stepping sound owed_exists passes code_signals holds_neither done first_not is_block may_hold traffic_of meaning_of heard_of first_of further_of is_words call_of call3_of told_in next_block3 is_callable is_callable7 same_seven is_identity check_sum number_of signal_of
 no_wrong_counted_when_damaged r e p =
     let z : ◌≡◌ {A = ℕ} 1 0 = same_wrong _ _ (sym e ∙ ap (λ (a : Answer Reply). (station_after set a).place) p.0) in omega arith
 
-pub no_33rd_repetition_in_identification : (r : Reply) → r.sent ≡ identity_block own7 Stage.One → Steps (at (tells Stage.One 0 0) 31 Nobody) silence Offer.Nothing (Stepped.Done r) → ⊥
+pub no_33rd_repetition_in_identification : (r : Reply) → r.sent ≡ identity_block own7 Stage.One → Steps (at (tells Stage.One 0 0) 31 Nobody) silence Offer.Nothing (Ok r) → ⊥
 unfolding stepping sound owed_exists passes code_signals holds_neither done first_not is_block may_hold traffic_of meaning_of heard_of first_of further_of is_words call_of call3_of told_in next_block3 is_callable is_callable7 same_seven is_identity check_sum number_of signal_of
 no_33rd_repetition_in_identification r e p =
     true≢false (sent_is _ r (identity_block own7 Stage.One) e p.0)
@@ -162,18 +162,18 @@ no_33rd_repetition_in_identification r e p =
 one_two : Turning One ≡ Turning Two → ⊥
 one_two n = let z : ◌≡◌ {A = ℕ} 1 0 = cc in omega arith
 
-pub no_turn_after_identification_awaiting_2 : (r : Reply) → r.station.place ≡ Turning One → Steps (at (tells Stage.Four 0 0) 0 Nobody) (single cs3) Offer.Nothing (Stepped.Done r) → ⊥
+pub no_turn_after_identification_awaiting_2 : (r : Reply) → r.station.place ≡ Turning One → Steps (at (tells Stage.Four 0 0) 0 Nobody) (single cs3) Offer.Nothing (Ok r) → ⊥
 unfolding stepping sound owed_exists passes code_signals holds_neither done first_not is_block may_hold traffic_of meaning_of heard_of first_of further_of is_words call_of call3_of told_in next_block3 is_callable is_callable7 same_seven is_identity check_sum number_of signal_of
 no_turn_after_identification_awaiting_2 r e p = one_two (sym e ∙ ap (λ (a : Answer Reply). (station_after set a).place) p.0)
 
 -- Answering, with nothing gathered yet
-pub no_last_block_first : (r : Reply) → stage_in r.station.place ≡ 4 → Steps (at unidentified 0 Nobody) (identity_block PEARDBY Stage.Three) Offer.Nothing (Stepped.Done r) → ⊥
+pub no_last_block_first : (r : Reply) → stage_in r.station.place ≡ 4 → Steps (at unidentified 0 Nobody) (identity_block PEARDBY Stage.Three) Offer.Nothing (Ok r) → ⊥
 unfolding stepping sound owed_exists passes code_signals holds_neither done first_not is_block may_hold traffic_of meaning_of heard_of first_of further_of is_words call_of call3_of told_in next_block3 is_callable is_callable7 same_seven is_identity check_sum number_of signal_of
 no_last_block_first r e p =
     let z : ◌≡◌ {A = ℕ} 4 1 = sym e ∙ ap (λ (a : Answer Reply). stage_in (station_after set a).place) p.0 in omega arith
 
 -- P α E was heard, and Z α E is
-pub no_unlike_block_confirmed : (r : Reply) → r.sent ≡ single (check_sum1 own7) → Steps (at (Answering (record { stage = Stage.Two; got = with_1 no_seven (word_no 16) (word_no 05) })) 0 Nobody) (words (word_no 26) alpha (word_no 05)) Offer.Nothing (Stepped.Done r) → ⊥
+pub no_unlike_block_confirmed : (r : Reply) → r.sent ≡ single (check_sum1 own7) → Steps (at (Answering (record { stage = Stage.Two; got = with_1 no_seven (word_no 16) (word_no 05) })) 0 Nobody) (words (word_no 26) alpha (word_no 05)) Offer.Nothing (Ok r) → ⊥
 unfolding stepping sound owed_exists passes code_signals holds_neither done first_not is_block may_hold traffic_of meaning_of heard_of first_of further_of is_words call_of call3_of told_in next_block3 is_callable is_callable7 same_seven is_identity check_sum number_of signal_of
 no_unlike_block_confirmed r e p =
     true≢false (sent_is _ r (single (check_sum1 own7)) e p.0)
@@ -183,7 +183,7 @@ abbrev printed_in : Answer Reply → Words
 printed_in (answered r) = r.printed
 printed_in (refused n v) = silence
 
-pub no_identity_printed : (r : Reply) → r.printed ≡ words PEARDBY.0 PEARDBY.1 PEARDBY.2 → Steps (at (Answering (record { stage = Stage.Four; got = PEARDBY })) 0 Nobody) RQ×3 Offer.Over (Stepped.Done r) → ⊥
+pub no_identity_printed : (r : Reply) → r.printed ≡ words PEARDBY.0 PEARDBY.1 PEARDBY.2 → Steps (at (Answering (record { stage = Stage.Four; got = PEARDBY })) 0 Nobody) RQ×3 Offer.Over (Ok r) → ⊥
 unfolding stepping sound owed_exists passes code_signals holds_neither done first_not is_block may_hold traffic_of meaning_of heard_of first_of further_of is_words call_of call3_of told_in next_block3 is_callable is_callable7 same_seven is_identity check_sum number_of signal_of
 no_identity_printed r e p =
     true≢false (sym (ap (λ (w : Words). is_words w (words PEARDBY.0 PEARDBY.1 PEARDBY.2)) e) ∙ ap (λ (a : Answer Reply). is_words (printed_in a) (words PEARDBY.0 PEARDBY.1 PEARDBY.2)) p.0)
@@ -192,6 +192,6 @@ known_nobody : Known PEARDBY ≡ Nobody → ⊥
 known_nobody n = let z : ◌≡◌ {A = ℕ} 1 0 = cc in omega arith
 
 -- traffic, and ααα is heard
-pub no_identification_kept_after_standby : (r : Reply) → r.station.other ≡ Known PEARDBY → Steps (at (Receiving One) 0 (Known PEARDBY)) ααα Offer.Nothing (Stepped.Done r) → ⊥
+pub no_identification_kept_after_standby : (r : Reply) → r.station.other ≡ Known PEARDBY → Steps (at (Receiving One) 0 (Known PEARDBY)) ααα Offer.Nothing (Ok r) → ⊥
 unfolding stepping sound owed_exists passes code_signals holds_neither done first_not is_block may_hold traffic_of meaning_of heard_of first_of further_of is_words call_of call3_of told_in next_block3 is_callable is_callable7 same_seven is_identity check_sum number_of signal_of
 no_identification_kept_after_standby r e p = known_nobody (sym e ∙ ap (λ (a : Answer Reply). (station_after set a).other) p.0)

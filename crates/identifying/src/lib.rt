@@ -30,16 +30,9 @@ pub fn identity_block(own: Seven, stage: Stage) -> Words
 fn again(own: Seven, i: Identified, wrong: u8, last: u8) -> Doing
     ensures { result ≡ Again (Identifying (record { to = i.to; stage = i.stage; wrong = wrong; last = last })) (identity_block own i.stage) }
 {
-    let to = i.to;
-    let stage = i.stage;
     Doing::Again(
-        Place::Identifying(Identified {
-            to: to,
-            stage: stage,
-            wrong: wrong,
-            last: last,
-        }),
-        identity_block(own, stage),
+        Place::Identifying(Identified { wrong, last, ..i }),
+        identity_block(own, i.stage),
     )
 }
 
@@ -56,8 +49,7 @@ fn same_block(own: Seven, i: Identified) -> Doing
 fn wrong_sum(own: Seven, i: Identified, letter: u8) -> Doing
     ensures { result ≡ wrong_sum own i letter }
 {
-    let wrong = i.wrong;
-    if (1 <= wrong) & (letter == i.last) {
+    if 1 <= i.wrong && letter == i.last {
         return Doing::Goes(
             Place::Ending(Ended {
                 number: Number::Two,
@@ -66,10 +58,10 @@ fn wrong_sum(own: Seven, i: Identified, letter: u8) -> Doing
             mode_a::ALPHAS,
         );
     }
-    if Station::WRONGS <= wrong {
+    if Station::WRONGS <= i.wrong {
         return Doing::Rests(0, mode_a::SILENCE);
     }
-    again(own, i, wrong + 1, letter)
+    again(own, i, i.wrong + 1, letter)
 }
 
 // A letter where the check-sum `sum` is expected, which leads to the stage `next` (3.6.3 to 3.6.8). Wrong ones are counted for each block.
@@ -77,33 +69,30 @@ fn compare(own: Seven, i: Identified, letter: u8, sum: u8, next: Stage) -> Doing
     ensures { result ≡ comparing own i sum next (Else (Letter letter)) }
 {
     if letter == sum {
-        let to = i.to;
-        return Doing::Goes(
+        Doing::Goes(
             Place::Identifying(Identified {
-                to: to,
+                to: i.to,
                 stage: next,
                 wrong: 0,
                 last: 0,
             }),
             identity_block(own, next),
-        );
+        )
+    } else {
+        wrong_sum(own, i, letter)
     }
-    wrong_sum(own, i, letter)
 }
 
 // Identifying that hears a letter of table 3b first: each of three stages expects a check-sum of the identity called, and the fourth none.
 pub fn compared(place: Place, own: Own, letter: u8) -> Doing
     ensures { result ≡ identifying own.seven (identified_in place) (Else (Letter letter)) }
 {
-    let seven = own.seven;
     let i = carried::identified_in(place);
-    let to = i.to;
-    let stage = i.stage;
-    match stage {
-        Stage::One => compare(seven, i, letter, to.check_sum_1(), Stage::Two),
-        Stage::Two => compare(seven, i, letter, to.check_sum_2(), Stage::Three),
-        Stage::Three => compare(seven, i, letter, to.check_sum_3(), Stage::Four),
-        Stage::Four => same_block(seven, i),
+    match i.stage {
+        Stage::One => compare(own.seven, i, letter, i.to.check_sum_1(), Stage::Two),
+        Stage::Two => compare(own.seven, i, letter, i.to.check_sum_2(), Stage::Three),
+        Stage::Three => compare(own.seven, i, letter, i.to.check_sum_3(), Stage::Four),
+        Stage::Four => same_block(own.seven, i),
     }
 }
 
@@ -111,34 +100,29 @@ pub fn compared(place: Place, own: Own, letter: u8) -> Doing
 pub fn block_again(place: Place, own: Own) -> Doing
     ensures { result ≡ same_block own.seven (identified_in place) }
 {
-    let seven = own.seven;
-    same_block(seven, carried::identified_in(place))
+    same_block(own.seven, carried::identified_in(place))
 }
 
 // Identifying that hears CS1 first: at the fourth stage traffic begins, with block 1 (3.6.10).
 pub fn taken_if_last(place: Place, own: Own) -> Doing
     ensures { result ≡ identifying own.seven (identified_in place) (Cs One) }
 {
-    let seven = own.seven;
     let i = carried::identified_in(place);
-    let stage = i.stage;
-    if stage.is_last() {
-        let to = i.to;
-        return Doing::Reaches(Peer::Known(to), Number::One);
+    if i.stage.is_last() {
+        Doing::Reaches(Peer::Known(i.to), Number::One)
+    } else {
+        same_block(own.seven, i)
     }
-    same_block(seven, i)
 }
 
 // Identifying that hears CS3 first: at the fourth stage traffic begins with the change-over (3.6.11).
 pub fn turned_if_last(place: Place, own: Own) -> Doing
     ensures { result ≡ identifying own.seven (identified_in place) Cs3 }
 {
-    let seven = own.seven;
     let i = carried::identified_in(place);
-    let stage = i.stage;
-    if stage.is_last() {
-        let to = i.to;
-        return Doing::Turns(to);
+    if i.stage.is_last() {
+        Doing::Turns(i.to)
+    } else {
+        same_block(own.seven, i)
     }
-    same_block(seven, i)
 }

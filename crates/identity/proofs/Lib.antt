@@ -1,5 +1,5 @@
 -- Laws of identity signals that the crates above cite.
---     TableLaws      a number's letter, and a letter's number; the search for one
+--     TableLaws      a number's letter, and a letter's number
 --     SumLaws        a check-sum's number; it is a letter
 --     OutsideLaws    the first word outside table 3a, of one identity and of two
 --     StrengthLaws   what the check-sums tell of a wrong identity, and what they do not

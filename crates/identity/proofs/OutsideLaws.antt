@@ -1,41 +1,48 @@
--- The index of the first word outside table 3a: as the code finds it, word by word from the right; where it is below the length of one
--- identity, or of two. Assumes nothing.
+-- The index of the first word outside table 3a: as `position` finds it; where it is below the length of one identity, or of two. Assumes nothing.
 use mathlib.Core.Path.{◌≡◌, refl, ap, ap₂, sym, ◌∙◌}
-use mathlib.Core.Bool.{Bool, true, false, not, ◌&&◌, and-true, and_assoc}
+use mathlib.Core.Bool.{Bool, true, false, not, ◌&&◌, cond, and-true, and_assoc}
 use mathlib.Core.List.{List, [], ◌∷◌, ◌++◌}
 use Prim.Native.Nat.{ℕ, suc, ◌+◌, ◌<◌, ◌≤◌}
 use native.Mathlib.Nat.{zero-add}
 use native.Mathlib.Omega.{arith}
 use lib.Dec.{ltb, leb-suc-suc}
 use lib.ListN.{length}
-use borrow.Author.Tests.{lt-ltb}
+use borrow.Author.Tests.{lt-ltb, ltb-false}
+use Rattle.std.specs.Option.{unwrap_or}
+use Rattle.std.specs.declared.option.Option.TheVariants.{Some, None}
+use Rattle.std.specs.List.{position_or_len}
+use Rattle.std.proofs.lemmas.List.Recursion.{is_position_or_len}
+use Rattle.std.proofs.lemmas.List.Sums.{prefix_len-le-length}
 use Rattle.std.specs.Prelude.{if◌then◌else◌}
 use Rattle.signals.specs.Numbers.{first_not}
 use Rattle.identity.specs.declared.Seven.{Seven}
 use Rattle.identity.specs.Table3.{is_identity}
 use Rattle.identity.specs.Sums.{signals_of7, is_callable7}
 
--- the same index, counted from n: what a chain of the code's `outside` gives
-abbrev pub outside_from : ℕ → List ℕ → ℕ
-outside_from n [] = n
-outside_from n (x ∷ xs) = if is_identity x then outside_from (suc n) xs else n
-
 -- the index, from the test of the first word and the index among the others
 abbrev after : Bool → ℕ → ℕ
 after b n = if b then suc n else 0
 
-counted : (n : ℕ) (xs : List ℕ) → outside_from n xs ≡ n + first_not is_identity xs
-unfolding first_not
-counted n [] = omega arith
-counted n (x ∷ xs) = go (is_identity x) (counted (suc n) xs)
-  where
-    go : (b : Bool) → outside_from (suc n) xs ≡ suc n + first_not is_identity xs →
-        (if b then outside_from (suc n) xs else n) ≡ n + after b (first_not is_identity xs)
-    go true later = omega arith
-    go false later = omega arith
+-- what `position` answers, the length where it finds none
+module _ (may : ℕ → Bool) where
+  abbrev place : List ℕ → ℕ
+  place xs = position_or_len (λ w. not (may w)) xs
 
-pub outside_from_0 : (xs : List ℕ) → outside_from 0 xs ≡ first_not is_identity xs
-outside_from_0 xs = counted 0 xs ∙ zero-add (first_not is_identity xs)
+  found : (xs : List ℕ) → first_not may xs ≡ place xs
+  unfolding first_not
+  found = is_position_or_len (first_not may) (λ w. not (may w)) refl (λ x xs. go (may x) (first_not may xs))
+    where
+      go : (b : Bool) (n : ℕ) → after b n ≡ cond (not b) 0 (1 + n)
+      go true n = omega arith
+      go false n = refl
+
+  pub outside_found : (xs : List ℕ) →
+      unwrap_or (cond (ltb (place xs) (length xs)) (Some (place xs)) None) (length xs) ≡ first_not may xs
+  outside_found xs = rw (found xs) (go (ltb (place xs) (length xs)) refl)
+    where
+      go : (b : Bool) → ltb (place xs) (length xs) ≡ b → unwrap_or (cond b (Some (place xs)) None) (length xs) ≡ place xs
+      go true e = refl
+      go false e = omega (arith, prefix_len-le-length (λ w. not (not (may w))) xs, ltb-false)
 
 -- of a list and another behind it: the index is in the first, or past it
 module _ (may : ℕ → Bool) where

@@ -1,9 +1,8 @@
--- Tables 3a and 3b, by tests that antt computes over their 20 lines; and the code's search of table 3b. Assumes nothing.
-use mathlib.Core.Path.{◌≡◌, refl, ap, sym, ◌∙◌}
+-- Tables 3a and 3b, by tests that antt computes over their 20 lines. Assumes nothing.
+use mathlib.Core.Path.{◌≡◌, refl, sym, ◌∙◌}
 use mathlib.Core.Bool.{Bool, true, false, ◌&&◌, ◌||◌, true≢false}
 use mathlib.Core.List.{List, [], ◌∷◌}
-use mathlib.Core.Logic.{◌≢◌}
-use Prim.Native.Nat.{ℕ, ◌+◌, ◌<◌, ◌≤◌}
+use Prim.Native.Nat.{ℕ, ◌<◌}
 use native.Mathlib.Omega.{arith}
 use lib.Dec.{T, eqb, ltb, eqb→eq, ltb→lt}
 use borrow.Author.Tests.{eqb-true}
@@ -77,23 +76,3 @@ module _ (w : ℕ) where
       go : (b : Bool) → is_identity w ≡ b → number_of w < 20
       go true e = (letter_read_back e).1
       go false e = omega (arith, no_letter e)
-
--- what is known while the code searches table 3b for the word w, at the place n: it is a letter, and not at a place before
-pub record Searching (w n : ℕ) : Type 0 where
-  pub letter : is_identity w ≡ true
-  pub before : n ≤ number_of w
-
-pub search_starts : (w : ℕ) → is_identity w ≡ true → Searching w 0
-search_starts w e = record { letter = e; before = omega arith }
-
-module _ (w n : ℕ) (s : Searching w n) where
-  pub search_in : n < 20
-  search_in = omega (arith, s.before, number_lt w)
-
-  pub search_on : signal_of n ≢ w → Searching w (n + 1)
-  search_on other =
-      let last : n ≢ number_of w = λ e. other (ap signal_of e ∙ (letter_read_back w s.letter).0) in
-      record { letter = s.letter; before = omega (arith, s.before) }
-
-  pub search_hit : signal_of n ≡ w → n ≡ number_of w
-  search_hit here = sym (number_of_signal n search_in) ∙ ap number_of here

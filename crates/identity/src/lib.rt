@@ -48,20 +48,14 @@ const LETTERS: [u8; 20] = [
     071, // 19  A
 ];
 
-// The number of a letter of table 3a; 0, which is V's too, for a word that is none. Each letter has a place, so the search for one
-// always hits.
+// The number of a letter of table 3a; 0, which is V's too, for a word that is none.
 fn number(word: u8) -> u8
     ensures { result ≡ number_of word }
 {
-    if !may_identify(word) {
-        return 0;
-    }
-    let letters = LETTERS;
-    let mut place = 0;
-    while letters[place] != word {
-        place += 1;
-    }
-    place as u8
+    LETTERS
+        .iter()
+        .position(|&letter| letter == word)
+        .unwrap_or(0) as u8
 }
 
 // The check-sum signal of three identity signals (001, 2.5). Adding first and dividing once gives what modulo 20-addition gives.
@@ -73,19 +67,8 @@ fn check_sum(x: u8, y: u8, z: u8) -> u8
     letters[sum as usize]
 }
 
-// One step of a search from the right for the first word outside table 3a: `place` where `word` is outside, else the answer for the
-// words behind it.
-pub fn outside(word: u8, place: usize, rest: usize) -> usize
-    ensures { result ≡ (if is_identity word then rest else place) }
-{
-    if may_identify(word) {
-        return rest;
-    }
-    place
-}
-
 // Seven identity signals (02, T-05; 001, 3.5.2). A station without such an identity has seven zeros.
-#[derive(Clone, Copy)]
+#[derive(Clone, Copy, PartialEq, Eq)]
 pub struct Seven(pub u8, pub u8, pub u8, pub u8, pub u8, pub u8, pub u8);
 
 impl Seven {
@@ -114,25 +97,10 @@ impl Seven {
     pub fn first_outside(self) -> usize
         ensures { result ≡ first_not is_identity (signals_of7 self) }
     {
-        let from_6 = outside(self.6, 6, 7);
-        let from_5 = outside(self.5, 5, from_6);
-        let from_4 = outside(self.4, 4, from_5);
-        let from_3 = outside(self.3, 3, from_4);
-        let from_2 = outside(self.2, 2, from_3);
-        let from_1 = outside(self.1, 1, from_2);
-        outside(self.0, 0, from_1)
-    }
-
-    // Whether two identities are the same in each of the seven.
-    pub fn same(self, other: Seven) -> bool
-        ensures { result ≡ same_seven self other }
-    {
-        (self.0 == other.0)
-            & (self.1 == other.1)
-            & (self.2 == other.2)
-            & (self.3 == other.3)
-            & (self.4 == other.4)
-            & (self.5 == other.5)
-            & (self.6 == other.6)
+        let signals = [self.0, self.1, self.2, self.3, self.4, self.5, self.6];
+        signals
+            .iter()
+            .position(|&word| !may_identify(word))
+            .unwrap_or(7)
     }
 }

@@ -1,11 +1,11 @@
 -- How many bytes a word prints, and a list: as many in either case, and one a word at most. Assumes nothing.
-use mathlib.Core.Path.{◌≡◌, refl, ap, sym, ◌∙◌}
-use mathlib.Core.Bool.{Bool, true, false}
-use mathlib.Core.List.{List, [], ◌∷◌}
+use mathlib.Core.Path.{◌≡◌, refl, sym, ◌∙◌}
+use mathlib.Core.Bool.{Bool, true, false, cond, ◌&&◌}
+use mathlib.Core.List.{List, [], ◌∷◌, ◌++◌}
 use Prim.Native.Nat.{ℕ, zero, suc, ◌+◌, ◌<◌, ◌≤◌}
 use native.Mathlib.Omega.{arith}
 use lib.Dec.{eqb}
-use lib.ListN.{length, get_or, drop, length-append}
+use lib.ListN.{length, get_or, length-append}
 use Rattle.std.specs.Prelude.{if◌then◌else◌}
 use Rattle.laws.proofs.Table.{same_table}
 use Rattle.signals.specs.declared.Case.{Case}
@@ -13,10 +13,10 @@ use Rattle.signals.specs.declared.Case.TheVariants.{Letters, Figures}
 use Rattle.signals.specs.Signals.{Signal, pair, lone, free, mute, signals, word_of}
 use Rattle.signals.specs.Meaning.{traffic_of, meaning_of}
 use Rattle.signals.specs.Numbers.{first_not}
-use Rattle.signals.proofs.NumberLaws.{all_head}
-use Rattle.text.specs.Printing.{may_print, prints, prints_in, bytes_of, case_at, printed, ends_printed}
-use Rattle.text.proofs.WalkLaws.{length_next, all_end}
-use Rattle.text.proofs.PrintingLaws.{printed_walk}
+use Rattle.signals.proofs.NumberLaws.{all_head, all_cons, all_append}
+use Rattle.text.specs.Printing.{may_print, prints, prints_in, bytes_of, case_at, printed}
+use Rattle.std.specs.List.{count_by}
+use Rattle.std.proofs.lemmas.List.Recursion.{is_count_by}
 use Rattle.judging.specs.Size.{size_of, sizes_of}
 
 signal_alike : (c : Case) (s : Signal) → length (prints c s) ≡ length (prints Letters s)
@@ -89,45 +89,36 @@ size_table w h = same_table (λ w. if may_print w then length (bytes_of Letters 
 pub size_is : (w : ℕ) → w < 256 → may_print w ≡ true → length (bytes_of Letters w) ≡ size_of w
 size_is w h e = rw e at (size_table w h)
 
-pub size_one : (w : ℕ) → size_of w ≤ 1
-size_one w = go (eqb w 90) (eqb w 54) (eqb w 106)
-  where
-    go : (a b c : Bool) → (if a then 0 else if b then 0 else if c then 0 else 1) ≤ 1
-    go true b c = omega arith
-    go false true c = omega arith
-    go false false true = omega arith
-    go false false false = omega arith
-
 -- where every entry passes a test, each does
 pub passes : (may : ℕ → Bool) (s : List ℕ) (i : ℕ) → i < length s → length s ≤ first_not may s → may (get_or s i 0) ≡ true
 passes may [] i h l = absurd (omega arith)
 passes may (x ∷ xs) zero h l = (all_head may x xs l).0
 passes may (x ∷ xs) (suc i) h l = passes may xs i (omega arith) (all_head may x xs l).1
 
--- what the words from i on need, and the words from i + 1 on
-pub size_next : (s : List ℕ) (i : ℕ) → i < length s → get_or s i 0 < 256 → may_print (get_or s i 0) ≡ true → (c : Case) → length (printed c (drop i s)) ≡ size_of (get_or s i 0) + length (printed c (drop (i + 1) s))
-size_next s i h byte may c =
-    omega (
-      arith,
-      length_next printed ends_printed bytes_of case_at printed_walk s i h c,
-      bytes_alike c (get_or s i 0),
-      size_is (get_or s i 0) byte may,
-      alike (case_at c (get_or s i 0)) c (drop (i + 1) s),
-    )
-
-pub size_end : (s : List ℕ) (c : Case) → length (printed c (drop (length s) s)) ≡ 0
-size_end s c = ap (λ (l : List ℕ). length l) (all_end printed ends_printed bytes_of case_at printed_walk c s)
-
--- the same of what they are counted to need, whatever the words are
-pub sizes_next : (s : List ℕ) (i : ℕ) → i < length s → sizes_of (drop i s) ≡ size_of (get_or s i 0) + sizes_of (drop (i + 1) s)
+-- what is counted: the words that print a byte
+pub sizes_counted : (ws : List ℕ) → sizes_of ws ≡ count_by (λ w. eqb (size_of w) 1) ws
 unfolding sizes_of
-sizes_next [] i h = absurd (omega arith)
-sizes_next (x ∷ xs) zero h = refl
-sizes_next (x ∷ xs) (suc i) h =
-    let e : suc i + 1 ≡ suc (i + 1) = omega arith in
-    rw e (sizes_next xs i (omega arith))
+sizes_counted ws = is_count_by sizes_of (λ w. eqb (size_of w) 1) refl (λ w ws. go (sizes_of ws) (eqb w 90) (eqb w 54) (eqb w 106)) ws
+  where
+    go : (n : ℕ) (a b c : Bool) → (if a then 0 else if b then 0 else if c then 0 else 1) + n ≡ cond (eqb (if a then 0 else if b then 0 else if c then 0 else 1) 1) (1 + n) n
+    go n true b c = omega arith
+    go n false true c = omega arith
+    go n false false true = omega arith
+    go n false false false = omega arith
 
-pub sizes_end : (s : List ℕ) → sizes_of (drop (length s) s) ≡ 0
+-- where each word may stand, that is how many bytes are printed
+pub sizes_print : (ws : List ℕ) → ((i : ℕ) → i < length ws → get_or ws i 0 < 256) → length ws ≤ first_not may_print ws → (c : Case) → sizes_of ws ≡ length (printed c ws)
 unfolding sizes_of
-sizes_end [] = refl
-sizes_end (x ∷ xs) = sizes_end xs
+sizes_print [] byte may c = omega (arith, none_of c)
+sizes_print (w ∷ ws) byte may c =
+    let h = all_head may_print w ws may in
+    omega (arith, sum_of c w ws, bytes_alike c w, size_is w (byte zero (omega arith)) h.0, sizes_print ws (λ i k. byte (suc i) (omega arith)) h.1 (case_at c w))
+
+-- one word more, judged with those before it
+pub all_more : (may : ℕ → Bool) (s : List ℕ) (w : ℕ) (a b : Bool) → b ≡ (a && may w) → (a ≡ true → length s ≤ first_not may s) → b ≡ true → length (s ++ w ∷ []) ≤ first_not may (s ++ w ∷ [])
+all_more may s w true b e held t =
+    all_append may s (w ∷ []) (held refl) (all_cons may w [] (sym e ∙ t) (omega arith))
+all_more may s w false b e held t = absurd (never (sym e ∙ t))
+  where
+    never : false ≡ true → ⊥
+    never z = cc

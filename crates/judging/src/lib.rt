@@ -2,7 +2,7 @@
 // Numbers returned, 3 and 2).
 #![tactic(auto)]
 
-ghost use Rattle.std.specs.Prelude.{true, ◌≡◌, ◌≤◌, length};
+ghost use Rattle.std.specs.Prelude.{true, ◌≡◌, ◌≤◌, length, if◌then◌else◌};
 ghost use Rattle.signals.specs.declared.Case.{Case};
 ghost use Rattle.signals.specs.Numbers.{first_not};
 ghost use Rattle.text.specs.Printing.{may_print, printed};
@@ -26,27 +26,17 @@ fn may_print(word: u8) -> bool
 fn all_may(words: &[u8]) -> bool
     ensures { result ≡ true → first_not may_print words.now ≡ length words.now }
 {
-    let mut all = true;
-    let mut i = 0;
-    while i < words.len() {
-        all = all & may_print(words[i]);
-        i += 1;
-    }
-    all
+    words.iter().fold(true, |all, word| all & may_print(*word))
 }
 
 // The first word that may not stand, found one by one.
 fn searched(words: &[u8]) -> usize
     ensures { result ≡ first_not may_print words.now }
 {
-    let mut i = 0;
-    while i < words.len() {
-        if !may_print(words[i]) {
-            return i;
-        }
-        i += 1;
-    }
-    i
+    words
+        .iter()
+        .position(|word| !may_print(*word))
+        .unwrap_or(words.len())
 }
 
 // The index of the first word that may not stand; the length where all may.
@@ -59,31 +49,16 @@ pub fn first_bad(words: &[u8]) -> usize
     searched(words)
 }
 
-// How many bytes a word that may stand prints, in either case.
-fn size(word: u8) -> usize
-    ensures { result ≡ size_of word }
+// Whether a word that may stand prints a byte, in either case.
+fn prints(word: u8) -> bool
+    ensures { size_of word ≡ (if result then 1 else 0) }
 {
-    if word == signals::LETTERS {
-        return 0;
-    }
-    if word == signals::FIGURES {
-        return 0;
-    }
-    if word == BLANK {
-        return 0;
-    }
-    1
+    !matches!(word, signals::LETTERS | signals::FIGURES | BLANK)
 }
 
 // The room that the words need where each may stand, whatever case they start in.
 pub fn needed(words: &[u8]) -> usize
     ensures { (result ≡ sizes_of words.now) × (length words.now ≤ first_not may_print words.now → (c : Case) → result ≡ length (printed c words.now)) }
 {
-    let mut room = 0;
-    let mut i = 0;
-    while i < words.len() {
-        room += size(words[i]);
-        i += 1;
-    }
-    room
+    words.iter().filter(|word| prints(**word)).count()
 }

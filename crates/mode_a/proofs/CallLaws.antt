@@ -7,13 +7,12 @@ use Prim.Native.Nat.{ℕ, suc, ◌+◌, ◌<◌, ◌≤◌}
 use native.Mathlib.Omega.{arith}
 use lib.Dec.{ltb}
 use borrow.Author.Tests.{lt-ltb, le-ltb}
-use Rattle.std.specs.Prelude.{if◌then◌else◌}
+use Rattle.std.specs.Prelude.{if◌then◌else◌, Ok, Err}
 use Rattle.signals.specs.Numbers.{first_not}
 use Rattle.identity.specs.declared.Seven.{Seven}
 use Rattle.identity.specs.Table3.{is_identity}
 use Rattle.identity.specs.Sums.{signals_of7}
 use Rattle.mode_a.specs.declared.Identity.{Identity}
-use Rattle.mode_a.specs.declared.Stood.{Stood}
 use Rattle.mode_a.specs.Calls.{signals_of}
 use Rattle.mode_a.specs.Station.{no_seven, fresh_at, standing, standing_both, StandsBy, StandsByBoth, no_code}
 
@@ -31,11 +30,11 @@ outside_both i r = go (is_identity i.0) (is_identity i.1) (is_identity i.2) (is_
 
 -- the promise of `standing_by` at each answer: n is the index of the first signal outside, 4 where there is none
 module _ (i : Identity) (n : ℕ) (e : n ≡ first_not is_identity (signals_of i)) where
-  pub outside : n < 4 → StandsBy i (Stood.BadIdentity n)
+  pub outside : n < 4 → StandsBy i (Err (record { 0 = n }))
   unfolding standing
   outside h = rw (lt-ltb (first_not is_identity (signals_of i)) 4 (rw e at h), e)
 
-  pub stands : 4 ≤ n → StandsBy i (Stood.By (fresh_at (record { four = i; seven = no_seven; code = no_code })))
+  pub stands : 4 ≤ n → StandsBy i (Ok (fresh_at (record { four = i; seven = no_seven; code = no_code })))
   unfolding standing
   stands h = rw (le-ltb (first_not is_identity (signals_of i)) 4 (rw e at h))
 
@@ -44,7 +43,7 @@ module _ (i : Identity) (j : Seven) (n : ℕ) (e : n ≡ first_not is_identity (
   first : n < 4 → first_not is_identity (signals_of i ++ signals_of7 j) ≡ n
   first h = outside_both i (signals_of7 j) ∙ rw (lt-ltb (first_not is_identity (signals_of i)) 4 (rw e at h)) (sym e)
 
-  pub outside_four : n < 4 → StandsByBoth i j (Stood.BadIdentity n)
+  pub outside_four : n < 4 → StandsByBoth i j (Err (record { 0 = n }))
   unfolding standing_both
   outside_four h = rw (first h, lt-ltb n 11 (omega (arith, h)))
 
@@ -52,10 +51,10 @@ module _ (i : Identity) (j : Seven) (n : ℕ) (e : n ≡ first_not is_identity (
     second : first_not is_identity (signals_of i ++ signals_of7 j) ≡ 4 + m
     second = outside_both i (signals_of7 j) ∙ rw (le-ltb (first_not is_identity (signals_of i)) 4 (rw e at h), f)
 
-    pub outside_seven : m < 7 → StandsByBoth i j (Stood.BadIdentity (4 + m))
+    pub outside_seven : m < 7 → StandsByBoth i j (Err (record { 0 = 4 + m }))
     unfolding standing_both
     outside_seven l = rw (second, lt-ltb (4 + m) 11 (omega (arith, l)))
 
-    pub stands_both : 7 ≤ m → StandsByBoth i j (Stood.By (fresh_at (record { four = i; seven = j; code = no_code })))
+    pub stands_both : 7 ≤ m → StandsByBoth i j (Ok (fresh_at (record { four = i; seven = j; code = no_code })))
     unfolding standing_both
     stands_both l = rw (second, le-ltb (4 + m) 11 (omega (arith, l)))

@@ -36,6 +36,7 @@ use mathlib.Core.Path.{◌≡◌, ap, sym, ◌∙◌}
 use mathlib.Core.Bool.{Bool, true, false}
 use Prim.Native.Nat.{ℕ}
 use native.Mathlib.Omega.{arith}
+use Rattle.std.specs.Prelude.{Result, Ok, Err}
 use Rattle.signals.specs.declared.Case.TheVariants.{Letters}
 use Rattle.signals.specs.Meaning.{meaning_of, traffic_of, cs1, cs2, cs3}
 use Rattle.signals.specs.Numbers.{Answer, answered, refused, first_not}
@@ -47,12 +48,12 @@ use Rattle.mode_a.specs.declared.Place.TheVariants.{Sending, Turning, Opening, E
 use Rattle.mode_a.specs.declared.Offer.{Offer}
 use Rattle.mode_a.specs.declared.Station.{Station}
 use Rattle.mode_a.specs.declared.Reply.{Reply}
-use Rattle.mode_a.specs.declared.Stepped.{Stepped}
+use Rattle.mode_a.specs.declared.Refused.{Refused}
+use Rattle.mode_a.specs.declared.Refusal.{Refusal}
 use Rattle.mode_a.specs.declared.Peer.TheVariants.{Nobody}
 use Rattle.mode_a.specs.declared.Mark.{Mark}
 use Rattle.mode_a.specs.declared.Identity.{Identity}
 use Rattle.mode_a.specs.declared.Owed.{Owed}
-use Rattle.mode_a.specs.declared.Stood.{Stood}
 use Rattle.identity.specs.declared.Seven.{Seven}
 use Rattle.identity.specs.Table3.{is_identity}
 use Rattle.mode_a.specs.Calls.{is_callable}
@@ -92,7 +93,7 @@ number_in (answered r) = 0
 number_in (refused n v) = n
 
 -- the first word sent, or printed, is the one that the promise says
-module _ (s : Station) (b : Words) (o : Offer) (r : Reply) (p : Steps s b o (Stepped.Done r)) (w : Words) where
+module _ (s : Station) (b : Words) (o : Offer) (r : Reply) (p : Steps s b o (Ok r)) (w : Words) where
   sent_is : r.sent ≡ w → w.0 ≡ (sent_in (stepping s b o)).0
   sent_is e = ap (λ (w : Words). w.0) (sym e ∙ ap sent_in p.0)
 
@@ -103,51 +104,51 @@ apart : true ≡ false → ⊥
 apart e = let z : ◌≡◌ {A = ℕ} 0 1 = cc in omega arith
 
 -- whatever satisfies the promise there is no refusal, of any number
-pub no_refusing_station : (r : Stepped) → Steps fresh_slave tea Offer.Nothing r → number_in (said_stepped r) ≡ 0
+pub no_refusing_station : (r : Result Reply Refused) → Steps fresh_slave tea Offer.Nothing r → number_in (said_stepped r) ≡ 0
 unfolding stepping sound owed_exists passes code_signals holds_neither heard_of first_of may_hold traffic_of meaning_of is_block is_words first_not done listened traffic_in
 no_refusing_station r p = ap number_in p.0
 
-pub no_constant_rq : (r : Reply) → r.sent ≡ RQ×3 → Steps fresh_slave tea Offer.Nothing (Stepped.Done r) → ⊥
+pub no_constant_rq : (r : Reply) → r.sent ≡ RQ×3 → Steps fresh_slave tea Offer.Nothing (Ok r) → ⊥
 unfolding stepping sound owed_exists passes code_signals holds_neither heard_of first_of may_hold traffic_of meaning_of is_block is_words first_not done listened traffic_in
 no_constant_rq r e p = let z : ◌≡◌ {A = ℕ} 102 106 = sent_is fresh_slave tea Offer.Nothing r p RQ×3 e in omega arith
 
 -- the second of two blocks: CS1 is due, and not CS2 once more
-pub no_first_step_again : (r : Reply) → r.sent ≡ asks_for Two → Steps (slave_at (Receiving Two) 0) tea Offer.Nothing (Stepped.Done r) → ⊥
+pub no_first_step_again : (r : Reply) → r.sent ≡ asks_for Two → Steps (slave_at (Receiving Two) 0) tea Offer.Nothing (Ok r) → ⊥
 unfolding stepping sound owed_exists passes code_signals holds_neither heard_of first_of may_hold traffic_of meaning_of is_block is_words first_not done listened traffic_in
 no_first_step_again r e p =
     let z : ◌≡◌ {A = ℕ} 106 101 = sent_is (slave_at (Receiving Two) 0) tea Offer.Nothing r p (asks_for Two) e in omega arith
 
 -- the block that was heard before comes again under the other number, and is printed again
-pub no_repeat_by_content : (r : Reply) → r.printed ≡ silence → Steps (slave_at (Receiving Two) 0) tea Offer.Nothing (Stepped.Done r) → ⊥
+pub no_repeat_by_content : (r : Reply) → r.printed ≡ silence → Steps (slave_at (Receiving Two) 0) tea Offer.Nothing (Ok r) → ⊥
 unfolding stepping sound owed_exists passes code_signals holds_neither heard_of first_of may_hold traffic_of meaning_of is_block is_words first_not done listened traffic_in
 no_repeat_by_content r e p =
     let z : ◌≡◌ {A = ℕ} 0 116 = printed_is (slave_at (Receiving Two) 0) tea Offer.Nothing r p silence e in omega arith
 
-pub no_over_unaccepted : (r : Reply) → r.taken ≡ true → Steps (slave_at (Receiving One) 0) damaged Offer.Over (Stepped.Done r) → ⊥
+pub no_over_unaccepted : (r : Reply) → r.taken ≡ true → Steps (slave_at (Receiving One) 0) damaged Offer.Over (Ok r) → ⊥
 unfolding stepping sound owed_exists passes code_signals holds_neither heard_of first_of may_hold traffic_of meaning_of is_block is_words first_not done listened traffic_in
 no_over_unaccepted r e p = apart (sym e ∙ ap taken_in p.0)
 
-pub no_cs3_unaccepted : (r : Reply) → r.sent ≡ single cs3 → Steps (slave_at (Receiving One) 0) damaged Offer.Over (Stepped.Done r) → ⊥
+pub no_cs3_unaccepted : (r : Reply) → r.sent ≡ single cs3 → Steps (slave_at (Receiving One) 0) damaged Offer.Over (Ok r) → ⊥
 unfolding stepping sound owed_exists passes code_signals holds_neither heard_of first_of may_hold traffic_of meaning_of is_block is_words first_not done listened traffic_in
 no_cs3_unaccepted r e p =
     let z : ◌≡◌ {A = ℕ} 89 101 = sent_is (slave_at (Receiving One) 0) damaged Offer.Over r p (single cs3) e in omega arith
 
-pub no_block_for_rq : (r : Reply) → r.sent ≡ tea → Steps (slave_at (Sending (record { number = One; block = tea })) 0) silence Offer.Nothing (Stepped.Done r) → ⊥
+pub no_block_for_rq : (r : Reply) → r.sent ≡ tea → Steps (slave_at (Sending (record { number = One; block = tea })) 0) silence Offer.Nothing (Ok r) → ⊥
 unfolding stepping sound owed_exists passes code_signals holds_neither heard_of first_of may_hold traffic_of meaning_of is_block is_words first_not done listened traffic_in
 no_block_for_rq r e p =
     let z : ◌≡◌ {A = ℕ} 116 102 = sent_is (slave_at (Sending (record { number = One; block = tea })) 0) silence Offer.Nothing r p tea e in omega arith
 
-pub no_own_number_at_turning : (r : Reply) → r.sent ≡ asks_for One → Steps (slave_at (Turning One) 0) RQ×3 Offer.Nothing (Stepped.Done r) → ⊥
+pub no_own_number_at_turning : (r : Reply) → r.sent ≡ asks_for One → Steps (slave_at (Turning One) 0) RQ×3 Offer.Nothing (Ok r) → ⊥
 unfolding stepping sound owed_exists passes code_signals holds_neither heard_of first_of may_hold traffic_of meaning_of is_block is_words first_not done listened traffic_in
 no_own_number_at_turning r e p =
     let z : ◌≡◌ {A = ℕ} 101 106 = sent_is (slave_at (Turning One) 0) RQ×3 Offer.Nothing r p (asks_for One) e in omega arith
 
-pub no_order_3_4 : (s : Station) → Steps (slave_at Lost 32) silence (Offer.Text silence) (Stepped.BadWord 0 s) → ⊥
+pub no_order_3_4 : (s : Station) → Steps (slave_at Lost 32) silence (Offer.Text silence) (Err (record { station = s; why = Refusal.BadWord 0 })) → ⊥
 unfolding stepping sound first_not
 no_order_3_4 s p = let z : ◌≡◌ {A = ℕ} 3 4 = ap number_in p.0 in omega arith
 
 -- at Stand-by, where no offer is taken
-pub no_offer_unjudged : (r : Reply) → Steps (slave_at (resting 0) 0) silence (Offer.Text (words 116 102 71)) (Stepped.Done r) → ⊥
+pub no_offer_unjudged : (r : Reply) → Steps (slave_at (resting 0) 0) silence (Offer.Text (words 116 102 71)) (Ok r) → ⊥
 unfolding stepping sound owed_exists passes code_signals holds_neither may_hold traffic_of meaning_of first_not
 no_offer_unjudged r p = let z : ◌≡◌ {A = ℕ} 0 3 = ap number_in p.0 in omega arith
 
@@ -161,21 +162,21 @@ nxqz = record { 0 = 89; 1 = 58; 2 = 46; 3 = 99 }
 abbrev vxqw : Identity
 vxqw = record { 0 = 60; 1 = 58; 2 = 46; 3 = 39 }
 
-pub no_order_4_8 : (s : Station) → Steps (slave_at Lost 32) silence (Offer.Call nxqz) (Stepped.BadStation s) → ⊥
+pub no_order_4_8 : (s : Station) → Steps (slave_at Lost 32) silence (Offer.Call nxqz) (Err (record { station = s; why = Refusal.BadStation })) → ⊥
 unfolding stepping is_identity first_not
 no_order_4_8 s p = let z : ◌≡◌ {A = ℕ} 4 8 = ap number_in p.0 in omega arith
 
 -- at Lost, where no call is placed
-pub no_call_unjudged : (r : Reply) → Steps (slave_at Lost 0) silence (Offer.Call vxqw) (Stepped.Done r) → ⊥
+pub no_call_unjudged : (r : Reply) → Steps (slave_at Lost 0) silence (Offer.Call vxqw) (Ok r) → ⊥
 unfolding stepping is_identity first_not
 no_call_unjudged r p = let z : ◌≡◌ {A = ℕ} 0 8 = ap number_in p.0 in omega arith
 
 -- Sending that hears the other number's control signal: βββ goes out, and the call stays with the operator
-pub no_call_taken_elsewhere : (r : Reply) → r.taken ≡ true → Steps (slave_at (Sending (record { number = One; block = tea })) 0) (single cs2) (Offer.Call vxqz) (Stepped.Done r) → ⊥
+pub no_call_taken_elsewhere : (r : Reply) → r.taken ≡ true → Steps (slave_at (Sending (record { number = One; block = tea })) 0) (single cs2) (Offer.Call vxqz) (Ok r) → ⊥
 unfolding stepping sound owed_exists passes code_signals holds_neither heard_of call_of call3_of is_identity is_callable is_callable7 first_of may_hold traffic_of meaning_of is_block is_words first_not done
 no_call_taken_elsewhere r e p = apart (sym e ∙ ap taken_in p.0)
 
-pub no_call_that_prints : (r : Reply) → r.printed ≡ words 60 0 0 → Steps (slave_at (resting 0) 0) silence (Offer.Call vxqz) (Stepped.Done r) → ⊥
+pub no_call_that_prints : (r : Reply) → r.printed ≡ words 60 0 0 → Steps (slave_at (resting 0) 0) silence (Offer.Call vxqz) (Ok r) → ⊥
 unfolding stepping sound owed_exists passes code_signals holds_neither heard_of call_of call3_of is_identity is_callable is_callable7 first_of may_hold traffic_of meaning_of is_block is_words first_not done
 no_call_that_prints r e p =
     let z : ◌≡◌ {A = ℕ} 60 0 = printed_is (slave_at (resting 0) 0) silence (Offer.Call vxqz) r p (words 60 0 0) e in omega arith
@@ -198,7 +199,7 @@ abbrev place_in : Answer Reply → Place
 place_in (answered r) = r.station.place
 place_in (refused n v) = Opening
 
-pub no_lost_caller : (r : Reply) → r.station.place ≡ Lost → Steps (slave_at (Calling (record { to = vxqz; sent = 128; last = Mark.None })) 0) silence Offer.Nothing (Stepped.Done r) → ⊥
+pub no_lost_caller : (r : Reply) → r.station.place ≡ Lost → Steps (slave_at (Calling (record { to = vxqz; sent = 128; last = Mark.None })) 0) silence Offer.Nothing (Ok r) → ⊥
 unfolding stepping sound owed_exists passes code_signals holds_neither heard_of call_of call3_of is_identity is_callable is_callable7 first_of may_hold traffic_of meaning_of is_block is_words first_not done
 no_lost_caller r e p = let z : ◌≡◌ {A = ℕ} 7 6 = ap place_no_in (sym e ∙ ap place_in p.0) in omega arith
 
@@ -214,20 +215,20 @@ index_in (answered r) = 99
 index_in (refused n v) = v
 
 -- at Stand-by, of a station whose own seven signals are zeros
-pub no_own_unjudged : (r : Reply) → Steps (slave_at (resting 0) 0) silence (Offer.Call3 peardby) (Stepped.Done r) → ⊥
+pub no_own_unjudged : (r : Reply) → Steps (slave_at (resting 0) 0) silence (Offer.Call3 peardby) (Ok r) → ⊥
 unfolding stepping is_identity first_not
 no_own_unjudged r p = let z : ◌≡◌ {A = ℕ} 0 8 = ap number_in p.0 in omega arith
 
-pub no_own_index_from_0 : (s : Station) → Steps (slave_at (resting 0) 0) silence (Offer.Call3 peardby) (Stepped.BadCall 0 s) → ⊥
+pub no_own_index_from_0 : (s : Station) → Steps (slave_at (resting 0) 0) silence (Offer.Call3 peardby) (Err (record { station = s; why = Refusal.BadCall 0 })) → ⊥
 unfolding stepping is_identity first_not
 no_own_index_from_0 s p = let z : ◌≡◌ {A = ℕ} 0 7 = ap index_in p.0 in omega arith
 
 -- both are bad, and W of the called one comes first
-pub no_own_first : (s : Station) → Steps (slave_at (resting 0) 0) silence (Offer.Call3 peardbw) (Stepped.BadCall 7 s) → ⊥
+pub no_own_first : (s : Station) → Steps (slave_at (resting 0) 0) silence (Offer.Call3 peardbw) (Err (record { station = s; why = Refusal.BadCall 7 })) → ⊥
 unfolding stepping is_identity first_not
 no_own_first s p = let z : ◌≡◌ {A = ℕ} 7 6 = ap index_in p.0 in omega arith
 
-pub no_order_4_8_of_seven : (s : Station) → Steps (slave_at Lost 32) silence (Offer.Call3 peardby) (Stepped.BadStation s) → ⊥
+pub no_order_4_8_of_seven : (s : Station) → Steps (slave_at Lost 32) silence (Offer.Call3 peardby) (Err (record { station = s; why = Refusal.BadStation })) → ⊥
 unfolding stepping is_identity first_not
 no_order_4_8_of_seven s p = let z : ◌≡◌ {A = ℕ} 4 8 = ap number_in p.0 in omega arith
 
@@ -235,7 +236,7 @@ no_order_4_8_of_seven s p = let z : ◌≡◌ {A = ℕ} 4 8 = ap number_in p.0 i
 abbrev peardby_at : Place → Station
 peardby_at p = record { role = Slave; place = p; count = 0; case = Letters; plus = false; own = record { four = vxqz; seven = peardby; code = no_code }; other = Nobody; owed = Owed.Nothing }
 
-pub no_call3_taken_elsewhere : (r : Reply) → r.taken ≡ true → Steps (peardby_at (Sending (record { number = One; block = tea }))) (single cs2) (Offer.Call3 peardby) (Stepped.Done r) → ⊥
+pub no_call3_taken_elsewhere : (r : Reply) → r.taken ≡ true → Steps (peardby_at (Sending (record { number = One; block = tea }))) (single cs2) (Offer.Call3 peardby) (Ok r) → ⊥
 unfolding stepping sound owed_exists passes code_signals holds_neither heard_of call_of call3_of is_identity is_callable is_callable7 first_of may_hold traffic_of meaning_of is_block is_words first_not done
 no_call3_taken_elsewhere r e p = apart (sym e ∙ ap taken_in p.0)
 
@@ -243,7 +244,7 @@ abbrev stood_in : Answer Station → ℕ
 stood_in (answered s) = 0
 stood_in (refused n v) = n
 
-pub no_standing_by_with_w : (s : Station) → StandsBy vxqw (Stood.By s) → ⊥
+pub no_standing_by_with_w : (s : Station) → StandsBy vxqw (Ok s) → ⊥
 unfolding standing is_identity first_not
 no_standing_by_with_w s p = let z : ◌≡◌ {A = ℕ} 0 8 = ap stood_in p in omega arith
 
@@ -265,11 +266,11 @@ abbrev station_in : Answer Station → Station → Station
 station_in (answered s) t = s
 station_in (refused n v) t = t
 
-pub no_standing_by_that_waits : (s : Station) → s.place ≡ resting 128 → StandsBy vxqz (Stood.By s) → ⊥
+pub no_standing_by_that_waits : (s : Station) → s.place ≡ resting 128 → StandsBy vxqz (Ok s) → ⊥
 unfolding standing is_identity first_not
 no_standing_by_that_waits s e p = let z : ◌≡◌ {A = ℕ} 128 0 = ap wait_in (sym e ∙ ap (λ (a : Answer Station). (station_in a s).place) p) in omega arith
 
-pub no_standing_by_both_with_w : (s : Station) → StandsByBoth vxqz peardbw (Stood.By s) → ⊥
+pub no_standing_by_both_with_w : (s : Station) → StandsByBoth vxqz peardbw (Ok s) → ⊥
 unfolding standing_both is_identity first_not
 no_standing_by_both_with_w s p = let z : ◌≡◌ {A = ℕ} 0 8 = ap stood_in p in omega arith
 
@@ -277,7 +278,7 @@ abbrev beside_in : Answer Station → ℕ
 beside_in (answered s) = 99
 beside_in (refused n v) = v
 
-pub no_seventh_index_6 : StandsByBoth vxqz peardbw (Stood.BadIdentity 6) → ⊥
+pub no_seventh_index_6 : StandsByBoth vxqz peardbw (Err (record { 0 = 6 })) → ⊥
 unfolding standing_both is_identity first_not
 no_seventh_index_6 p = let z : ◌≡◌ {A = ℕ} 6 10 = ap beside_in p in omega arith
 

@@ -4,7 +4,7 @@
 -- state." "An offer is text (three words), over, end or nothing", or a call (02, T-02 and T-05).  R-044, R-045, R-046: the types Role, Place and Offer of
 -- src/lib.rt.
 -- Assumes nothing.
-use Rattle.std.specs.Prelude.{◌≡◌, Bool, true, false, List, [], ◌∷◌, ◌++◌, ℕ, ltb, if◌then◌else◌}
+use Rattle.std.specs.Prelude.{◌≡◌, Bool, true, false, List, [], ◌∷◌, ◌++◌, ℕ, ltb, if◌then◌else◌, Result, Ok, Err}
 use Rattle.signals.specs.declared.Case.TheVariants.{Letters}
 use Rattle.signals.specs.Meaning.{alpha, beta, rq, cs1, cs2}
 use Rattle.signals.specs.Numbers.{Answer, answered, refused, first_not}
@@ -22,7 +22,7 @@ use Rattle.mode_a.specs.declared.Peer.TheVariants.{Nobody}
 use Rattle.mode_a.specs.declared.Place.{Place}
 use Rattle.mode_a.specs.declared.Place.TheVariants.{Opening, Receiving, StandBy}
 use Rattle.mode_a.specs.declared.Station.{Station}
-use Rattle.mode_a.specs.declared.Stood.{Stood}
+use Rattle.mode_a.specs.declared.BadIdentity.{BadIdentity}
 use Rattle.identity.specs.declared.Seven.{Seven}
 use Rattle.identity.specs.Table3.{is_identity}
 use Rattle.identity.specs.Sums.{signals_of7}
@@ -121,13 +121,13 @@ standing_both i j =
     if ltb (first_not is_identity (signals_of i ++ signals_of7 j)) 11 then refused 8 (first_not is_identity (signals_of i ++ signals_of7 j))
     else answered (fresh_at (record { four = i; seven = j; code = no_code }))
 
-abbrev pub said_stood : Stood → Answer Station
-said_stood (Stood.By s) = answered s
-said_stood (Stood.BadIdentity n) = refused 8 n
+abbrev pub said_stood : Result Station BadIdentity → Answer Station
+said_stood (Ok s) = answered s
+said_stood (Err e) = refused 8 e.0
 
 -- The promise of `standing_by`: r is the answer for the identity i; and of `standing_by_both`, for i and j.
-abbrev pub StandsBy : Identity → Stood → Type 0
+abbrev pub StandsBy : Identity → Result Station BadIdentity → Type 0
 StandsBy i r = said_stood r ≡ standing i
 
-abbrev pub StandsByBoth : Identity → Seven → Stood → Type 0
+abbrev pub StandsByBoth : Identity → Seven → Result Station BadIdentity → Type 0
 StandsByBoth i j r = said_stood r ≡ standing_both i j

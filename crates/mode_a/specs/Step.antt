@@ -1,7 +1,7 @@
 -- 01, The station: "One step: hear a burst, take an offer, answer with the new station, a burst to send, up to three printed
 -- signals, and whether the offer was taken."  R-039, R-040. With calls as 02, T-02 and T-05 have them, and answer-back as T-06.
 -- Assumes nothing.
-use Rattle.std.specs.Prelude.{◌≡◌, Bool, true, false, not, ◌&&◌, List, [], ◌∷◌, ◌++◌, ℕ, ◌+◌, ◌-◌, eqb, leb, ltb, length, get_or, if◌then◌else◌}
+use Rattle.std.specs.Prelude.{◌≡◌, Bool, true, false, not, ◌&&◌, List, [], ◌∷◌, ◌++◌, ℕ, ◌+◌, ◌-◌, eqb, leb, ltb, length, get_or, if◌then◌else◌, Result, Ok, Err}
 use Rattle.signals.specs.declared.Case.{Case}
 use Rattle.signals.specs.declared.Case.TheVariants.{Letters}
 use Rattle.signals.specs.Meaning.{beta, cs3, cs4}
@@ -27,8 +27,9 @@ use Rattle.mode_a.specs.declared.Station.{Station}
 use Rattle.mode_a.specs.declared.Doing.{Doing}
 use Rattle.mode_a.specs.declared.Doing.TheVariants.{Repeats, Goes, Takes, Receives, Opens, Accepts, Rests, Answers, Listens, Reaches, Answers3, Bars, Ends, Turns, Meets, Again, Yields}
 use Rattle.mode_a.specs.declared.Reply.{Reply}
-use Rattle.mode_a.specs.declared.Stepped.{Stepped}
-use Rattle.mode_a.specs.declared.Coded.{Coded}
+use Rattle.mode_a.specs.declared.Refusal.{Refusal}
+use Rattle.mode_a.specs.declared.Refused.{Refused}
+use Rattle.mode_a.specs.declared.BadCode.{BadCode}
 use Rattle.identity.specs.declared.Seven.{Seven}
 use Rattle.identity.specs.Table3.{is_identity}
 use Rattle.identity.specs.Sums.{signals_of7, same_seven}
@@ -313,28 +314,32 @@ stepping s b o =
     else answered (done s b o (row_of s.own s.role s.place (heard_of s.own b)))
 
 -- each case of the answer, by 01's number and the value beside it  R-167
-abbrev pub said_stepped : Stepped → Answer Reply
-said_stepped (Stepped.Done r) = answered r
-said_stepped (Stepped.BadStation s) = refused 4 0
-said_stepped (Stepped.BadCode s) = refused 9 0
-said_stepped (Stepped.BadWord i s) = refused 3 i
-said_stepped (Stepped.BadCall i s) = refused 8 i
+abbrev pub said_refusal : {A : Type 0} → Refusal → Answer A
+said_refusal Refusal.BadStation = refused 4 0
+said_refusal Refusal.BadCode = refused 9 0
+said_refusal (Refusal.BadWord i) = refused 3 i
+said_refusal (Refusal.BadCall i) = refused 8 i
+
+-- The promise of `Refusal::told`: t is the number and the value beside it.
+abbrev pub TellsRefusal : Refusal → ℕ × ℕ → Type 0
+TellsRefusal e t = said_refusal {A = Reply} e ≡ refused t.0 t.1
+
+abbrev pub said_stepped : Result Reply Refused → Answer Reply
+said_stepped (Ok r) = answered r
+said_stepped (Err e) = said_refusal e.why
 
 -- the station that the answer hands back: "A refusal prints and sends nothing .. and hands back the same station."  R-136, R-138: a
 -- refusal has no burst and no printed signals
-abbrev pub handed_back : Stepped → Station
-handed_back (Stepped.Done r) = r.station
-handed_back (Stepped.BadStation s) = s
-handed_back (Stepped.BadCode s) = s
-handed_back (Stepped.BadWord i s) = s
-handed_back (Stepped.BadCall i s) = s
+abbrev pub handed_back : Result Reply Refused → Station
+handed_back (Ok r) = r.station
+handed_back (Err e) = e.station
 
 abbrev pub station_after : Station → Answer Reply → Station
 station_after s (answered r) = r.station
 station_after s (refused n v) = s
 
 -- The promise of `step`: r is the answer to a step of the station s.  R-168
-abbrev pub Steps : Station → Words → Offer → Stepped → Type 0
+abbrev pub Steps : Station → Words → Offer → Result Reply Refused → Type 0
 Steps s b o r = (said_stepped r ≡ stepping s b o) × (handed_back r ≡ station_after s (stepping s b o))
 
 -- 02, T-06: the station with this code, and nothing owed of an answer; or "9, a code over 20 signals, ..", and the same station  R-244
@@ -354,18 +359,18 @@ coded s c =
 unfoldable pub coding : Station → Code → Answer Station
 coding s c = if passes c then answered (coded s c) else refused 9 0
 
-abbrev pub said_coded : Coded → Answer Station
-said_coded (Coded.With s) = answered s
-said_coded (Coded.BadCode s) = refused 9 0
+abbrev pub said_coded : Result Station BadCode → Answer Station
+said_coded (Ok s) = answered s
+said_coded (Err e) = refused 9 0
 
-abbrev pub coded_back : Coded → Station
-coded_back (Coded.With s) = s
-coded_back (Coded.BadCode s) = s
+abbrev pub coded_back : Result Station BadCode → Station
+coded_back (Ok s) = s
+coded_back (Err e) = e.0
 
 abbrev pub station_with : Station → Answer Station → Station
 station_with s (answered t) = t
 station_with s (refused n v) = s
 
 -- The promise of `with_code`: r is the answer for the station s and the code c.
-abbrev pub Codes : Station → Code → Coded → Type 0
+abbrev pub Codes : Station → Code → Result Station BadCode → Type 0
 Codes s c r = (said_coded r ≡ coding s c) × (coded_back r ≡ station_with s (coding s c))

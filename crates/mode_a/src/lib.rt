@@ -2,26 +2,27 @@
 // place by place, are `specs/Rows.antt` and `specs/Step.antt`.
 #![tactic(auto)]
 
-ghost use Rattle.std.specs.Prelude.{◌≡◌};
+ghost use Rattle.std.specs.Prelude.{◌≡◌, ◌≤◌, ◌<◌, OnOk, IfErr};
 ghost use Rattle.signals.specs.Numbers.{first_not};
 ghost use Rattle.identity.specs.Table3.{is_identity};
 ghost use Rattle.mode_a.specs.Calls.{signals_of, call_block1, call_block2};
-ghost use Rattle.mode_a.specs.Station.{other, same, asks_for, mark_of, fresh_master, fresh_slave, first_burst, fresh_at, StandsBy, StandsByBoth};
+ghost use Rattle.mode_a.specs.Station.{other, asks_for, mark_of, fresh_master, fresh_slave, first_burst, fresh_at, StandsBy, StandsByBoth};
 ghost use Rattle.mode_a.specs.Heard.{may_hold};
 ghost use Rattle.mode_a.specs.Rows.{is_last};
+ghost use Rattle.mode_a.specs.Step.{TellsRefusal};
 
 use identity::Seven;
 use signals::Case;
 
 // "A station is master or slave".
-#[derive(Clone, Copy)]
+#[derive(Clone, Copy, PartialEq, Eq)]
 pub enum Role {
     Master,
     Slave,
 }
 
 // The number of a block: one of two, by its type.
-#[derive(Clone, Copy)]
+#[derive(Clone, Copy, PartialEq, Eq)]
 pub enum Number {
     One,
     Two,
@@ -34,21 +35,6 @@ impl Number {
         match self {
             Number::One => Number::Two,
             Number::Two => Number::One,
-        }
-    }
-
-    pub fn same(self, number: Number) -> bool
-        ensures { result ≡ same self number }
-    {
-        match self {
-            Number::One => match number {
-                Number::One => true,
-                Number::Two => false,
-            },
-            Number::Two => match number {
-                Number::One => false,
-                Number::Two => true,
-            },
         }
     }
 
@@ -100,7 +86,7 @@ pub enum Succession {
 }
 
 // How far identification has come: the block that Identifying sends and Answering awaits. The fourth is RQ RQ RQ.
-#[derive(Clone, Copy)]
+#[derive(Clone, Copy, PartialEq, Eq)]
 pub enum Stage {
     One,
     Two,
@@ -113,17 +99,12 @@ impl Stage {
     pub fn is_last(self) -> bool
         ensures { result ≡ is_last self }
     {
-        match self {
-            Stage::One => false,
-            Stage::Two => false,
-            Stage::Three => false,
-            Stage::Four => true,
-        }
+        self == Stage::Four
     }
 }
 
 // Three words: a burst, a block, the words of a text offer, or up to three printed signals with 0 behind them.
-#[derive(Clone, Copy)]
+#[derive(Clone, Copy, PartialEq, Eq)]
 pub struct Words(pub u8, pub u8, pub u8);
 
 pub const SILENCE: Words = Words(0, 0, 0);
@@ -135,6 +116,7 @@ pub const ALPHAS: Words = Words(signals::ALPHA, signals::ALPHA, signals::ALPHA);
 pub const TURN: Words = Words(signals::BETA, signals::ALPHA, signals::BETA);
 
 // Whether a word may stand in a block: traffic or β, which is every intact word but α and RQ.
+#[tactic(auto, using(crate::proofs::HeardLaws::may_hold_is))]
 pub fn may_hold(word: u8) -> bool
     ensures { result ≡ may_hold word }
 {
@@ -164,10 +146,23 @@ impl Identity {
     pub fn first_outside(self) -> usize
         ensures { result ≡ first_not is_identity (signals_of self) }
     {
-        let from_3 = identity::outside(self.3, 3, 4);
-        let from_2 = identity::outside(self.2, 2, from_3);
-        let from_1 = identity::outside(self.1, 1, from_2);
-        identity::outside(self.0, 0, from_1)
+        let signals = [self.0, self.1, self.2, self.3];
+        signals
+            .iter()
+            .position(|&word| !identity::may_identify(word))
+            .unwrap_or(4)
+    }
+
+    // Refuses 8, with the index of the first signal outside table 3a.
+    fn judged(self) -> Result<(), BadIdentity>
+        ensures ok { OnOk result (4 ≤ first_not is_identity (signals_of self)) }
+        ensures err { IfErr result (λ e. (e.0 ≡ first_not is_identity (signals_of self)) × (e.0 < 4)) }
+    {
+        let outside = self.first_outside();
+        if outside < 4 {
+            return Err(BadIdentity(outside));
+        }
+        Ok(())
     }
 }
 
@@ -310,6 +305,13 @@ pub struct Own {
     pub code: Code,
 }
 
+// Of a station without an identity and with the empty code.
+pub const NO_OWN: Own = Own {
+    four: Identity(0, 0, 0, 0),
+    seven: Seven(0, 0, 0, 0, 0, 0, 0),
+    code: NO_CODE,
+};
+
 // Who is at the other end, as far as this station knows: the identity of four signals that it called, or that of seven which
 // identification has told. Barred: nobody, and the three-block call to this identity has failed and is not to be placed again at once.
 #[derive(Clone, Copy)]
@@ -389,35 +391,49 @@ pub struct Reply {
     pub taken: bool,
 }
 
-// What `station::step` answers: the step done, or a refusal with the same station.
-#[derive(Clone, Copy)]
-pub enum Stepped {
-    Done(Reply),
+// Why a step is refused, and so is the question for its reason.
+#[derive(Clone, Copy, PartialEq, Eq)]
+pub enum Refusal {
     // 4: a count over 31, an Ending total not 1 to 4, a held word neither traffic nor β, or an owed block that the answer does not have
-    BadStation(Station),
+    BadStation,
     // 9: a code over 20 signals, with a word that is not traffic, or holding D in figures or an over from either case
-    BadCode(Station),
+    BadCode,
     // 3: a word of the text offer neither traffic nor β; the index of the first
-    BadWord(usize, Station),
+    BadWord(usize),
     // 8: a signal of the identity called, or behind it of the own one that identification tells, outside table 3a; the index of the first
-    BadCall(usize, Station),
+    BadCall(usize),
 }
 
-// What `answerback::with_code` answers: the station with its code, or a refusal with the same station.
-#[derive(Clone, Copy)]
-pub enum Coded {
-    With(Station),
-    // 9: a code over 20 signals, with a word that is not traffic, or holding D in figures or an over from either case
-    BadCode(Station),
+impl Refusal {
+    // The refusal's number, and the value beside it (01, Numbers returned).
+    pub fn told(self) -> (u8, usize)
+        ensures { TellsRefusal self result }
+    {
+        match self {
+            Refusal::BadStation => (4, 0),
+            Refusal::BadCode => (9, 0),
+            Refusal::BadWord(index) => (3, index),
+            Refusal::BadCall(index) => (8, index),
+        }
+    }
 }
 
-// What `Station::standing_by` and `Station::standing_by_both` answer.
+// What `station::step` answers where it refuses: the same station, and why.
 #[derive(Clone, Copy)]
-pub enum Stood {
-    By(Station),
-    // 8: a signal of an own identity outside table 3a; the index of the first
-    BadIdentity(usize),
+pub struct Refused {
+    pub station: Station,
+    pub why: Refusal,
 }
+
+// What `answerback::with_code` answers where it refuses: the same station. 9: a code over 20 signals, with a word that is not traffic, or
+// holding D in figures or an over from either case.
+#[derive(Clone, Copy)]
+pub struct BadCode(pub Station);
+
+// What `Station::standing_by` and `Station::standing_by_both` answer where they refuse. 8: a signal of an own identity outside table 3a; the
+// index of the first.
+#[derive(Clone, Copy, PartialEq, Eq)]
+pub struct BadIdentity(pub usize);
 
 impl Station {
     // The repetition that makes a station Lost, or in identification leads it to Stand-by.
@@ -432,26 +448,6 @@ impl Station {
     // How often an identification block is sent again for wrong check-sums.
     pub const WRONGS: u8 = 4;
 
-    // "A fresh master is Opening."
-    pub fn fresh_master() -> Self
-        ensures { result ≡ fresh_master }
-    {
-        Station {
-            role: Role::Master,
-            place: Place::Opening,
-            count: 0,
-            case: Case::Letters,
-            plus: false,
-            own: Own {
-                four: Identity(0, 0, 0, 0),
-                seven: Seven(0, 0, 0, 0, 0, 0, 0),
-                code: NO_CODE,
-            },
-            other: Peer::Nobody,
-            owed: Owed::Nothing,
-        }
-    }
-
     // "A fresh slave is Receiving, awaits 1, and its first burst is CS1": the caller sends that burst, `first_burst`, before
     // the first step.
     pub fn fresh_slave() -> Self
@@ -463,72 +459,66 @@ impl Station {
             count: 0,
             case: Case::Letters,
             plus: false,
-            own: Own {
-                four: Identity(0, 0, 0, 0),
-                seven: Seven(0, 0, 0, 0, 0, 0, 0),
-                code: NO_CODE,
-            },
+            own: NO_OWN,
             other: Peer::Nobody,
             owed: Owed::Nothing,
         }
     }
 
-    // A station at Stand-by that nobody has called yet.
+    // "A fresh master is Opening."
+    pub fn fresh_master() -> Self
+        ensures { result ≡ fresh_master }
+    {
+        Station {
+            role: Role::Master,
+            place: Place::Opening,
+            ..Station::fresh_slave()
+        }
+    }
+
+    // A station at Stand-by that nobody has called yet. It is neither master nor slave (001, 3.5.1), and keeps the fresh slave's role: the type
+    // has no third one, and no row of Stand-by looks at it.
     fn fresh_at(own: Own) -> Self
         ensures { result ≡ fresh_at own }
     {
-        // neither master nor slave yet (001, 3.5.1): the type has no third role, and no row of Stand-by looks at it
-        let role = Role::Slave;
         Station {
-            role: role,
             place: Place::StandBy(Waiting {
                 wait: 0,
                 heard: Mark::None,
                 heard3: Succession::None,
             }),
-            count: 0,
-            case: Case::Letters,
-            plus: false,
-            own: own,
-            other: Peer::Nobody,
-            owed: Owed::Nothing,
+            own,
+            ..Station::fresh_slave()
         }
     }
 
     // A station at Stand-by that is called by `identity` (02, T-02; 001, 3.5.1), and has none of seven signals. Refuses 8, with the index
     // of the first signal outside table 3a: a station with such an identity would never be called.
     #[tactic(auto, using(crate::proofs::CallLaws::outside, crate::proofs::CallLaws::stands))]
-    pub fn standing_by(identity: Identity) -> Stood
+    pub fn standing_by(identity: Identity) -> Result<Station, BadIdentity>
         ensures { StandsBy identity result }
     {
-        let outside = identity.first_outside();
-        if outside < 4 {
-            return Stood::BadIdentity(outside);
-        }
-        Stood::By(Station::fresh_at(Own {
+        identity.judged()?;
+        Ok(Station::fresh_at(Own {
             four: identity,
-            seven: Seven(0, 0, 0, 0, 0, 0, 0),
-            code: NO_CODE,
+            ..NO_OWN
         }))
     }
 
     // The same with both identities (02, T-05; 001, 3.5.2.1): the index counts the four signals, and then the seven.
     #[tactic(auto, using(crate::proofs::CallLaws::outside_four, crate::proofs::CallLaws::outside_seven, crate::proofs::CallLaws::stands_both))]
-    pub fn standing_by_both(four: Identity, seven: Seven) -> Stood
+    pub fn standing_by_both(four: Identity, seven: Seven) -> Result<Station, BadIdentity>
         ensures { StandsByBoth four seven result }
     {
-        let of_four = four.first_outside();
-        if of_four < 4 {
-            return Stood::BadIdentity(of_four);
-        }
+        four.judged()?;
         let of_seven = seven.first_outside();
         if of_seven < 7 {
-            return Stood::BadIdentity(4 + of_seven);
+            return Err(BadIdentity(4 + of_seven));
         }
-        Stood::By(Station::fresh_at(Own {
-            four: four,
-            seven: seven,
-            code: NO_CODE,
+        Ok(Station::fresh_at(Own {
+            four,
+            seven,
+            ..NO_OWN
         }))
     }
 

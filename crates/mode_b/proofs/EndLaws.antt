@@ -14,7 +14,7 @@ use Prim.Native.Nat.{ℕ, zero, suc, ◌≤◌, ◌<◌}
 use native.Mathlib.Omega.{arith}
 use lib.Dec.{eqb, ltb}
 use borrow.Author.Tests.{eqb-true, ltb-true, lt-ltb}
-use Rattle.std.specs.Prelude.{if◌then◌else◌}
+use Rattle.std.specs.Prelude.{if◌then◌else◌, None}
 use Rattle.signals.specs.Meaning.{alpha, rq}
 use Rattle.signals.specs.Numbers.{Answer, answered, refused}
 use Rattle.mode_b.specs.declared.Phasing.{Phasing}
@@ -94,11 +94,11 @@ ends_exactly v w h = (((λ e. go v.left refl h e), (λ l. ap (λ (r : Receiver).
     go (suc (suc (suc zero))) e h d = let z : ◌≡◌ {A = ℕ} 2 0 = rw e at d in absurd (omega arith)
     go (suc (suc (suc (suc n)))) e h d = absurd (omega arith)
 
-pub prints_first_alone : (v : Wait) (w : ℕ) → v.left ≤ 2 → printed_by (hearing (Waiting v)) w ≡ 0
+pub prints_first_alone : (v : Wait) (w : ℕ) → v.left ≤ 2 → printed_by (hearing (Waiting v)) w ≡ None
 unfolding waited
 prints_first_alone v w h = go v.left refl h
   where
-    go : (n : ℕ) → v.left ≡ n → n ≤ 2 → printed_by (hearing (Waiting v)) w ≡ 0
+    go : (n : ℕ) → v.left ≡ n → n ≤ 2 → printed_by (hearing (Waiting v)) w ≡ None
     go zero e l = rw e
     go (suc zero) e l = rw e
     go (suc (suc zero)) e l = rw e

@@ -16,7 +16,7 @@ use Prim.Native.Nat.{ℕ}
 use native.Mathlib.Omega.{arith}
 use lib.Dec.{eqb, ltb}
 use borrow.Author.Tests.{eqb-true}
-use Rattle.std.specs.Prelude.{if◌then◌else◌}
+use Rattle.std.specs.Prelude.{if◌then◌else◌, Some, None}
 use Rattle.signals.specs.Units.{intact_of, ones_of}
 use Rattle.signals.specs.Meaning.{alpha, rq, error_mark}
 use Rattle.signals.specs.Numbers.{Answer, answered, refused}
@@ -26,18 +26,19 @@ use Rattle.mode_b.specs.declared.Hearing.{Hearing}
 use Rattle.mode_b.specs.declared.Hearing.TheVariants.{Searching, InPhase, Waiting}
 use Rattle.mode_b.specs.declared.Receiver.{Receiver}
 use Rattle.mode_b.specs.declared.Heard.{Heard}
-use Rattle.mode_b.specs.Receiver.{fresh_receiver, hears, run_of, locked, searched_on, Settled, settled, printed_of, printing_after, heard_rx, receiving, after_word}
+use Rattle.mode_b.specs.declared.Settled.{Settled}
+use Rattle.mode_b.specs.Receiver.{fresh_receiver, hears, run_of, locked, searched_on, settled, printed_of, printing_after, heard_rx, receiving, after_word}
 
 abbrev hearing : Hearing → Receiver
 hearing h = record { hearing = h }
 
 -- a position whose DX is RQ, before printing has begun
-pub rq_prints_nothing : (w : ℕ) → (printed_of false (settled rq w) ≡ 0) × (printing_after false (settled rq w) ≡ false)
+pub rq_prints_nothing : (w : ℕ) → (printed_of false (settled rq w) ≡ None) × (printing_after false (settled rq w) ≡ false)
 unfolding settled intact_of ones_of
 rq_prints_nothing w = go (intact_of w) (eqb rq w) (eqb w alpha)
   where
-    go : (i e a : Bool) → let s = (if i && e then Settled.signal rq else if a then Settled.phasing else if not i then Settled.signal rq else if i && false then Settled.signal w else Settled.error) in
-        (printed_of false s ≡ 0) × (printing_after false s ≡ false)
+    go : (i e a : Bool) → let s = (if i && e then Settled.Signal rq else if a then Settled.Phasing else if not i then Settled.Signal rq else if i && false then Settled.Signal w else Settled.Error) in
+        (printed_of false s ≡ None) × (printing_after false s ≡ false)
     go true true a = (refl, refl)
     go true false true = (refl, refl)
     go true false false = (refl, refl)
@@ -48,7 +49,7 @@ pub counts_as_phasing : (w : ℕ) → receiving (hearing (locked Phasing.Two)) w
 unfolding heard_rx
 counts_as_phasing w = rw ((rq_prints_nothing w).0, (rq_prints_nothing w).1)
 
-pub settles_as_phasing : settled rq alpha ≡ Settled.phasing
+pub settles_as_phasing : settled rq alpha ≡ Settled.Phasing
 unfolding settled intact_of ones_of
 settles_as_phasing = refl
 
@@ -82,13 +83,13 @@ into_phase k last v h p e q = go (ltb 3 k) (eqb v alpha) (eqb v rq) refl refl e
     go false false true i j e = inr (eqb-true v rq j, on Phasing.Two (run_of k last Phasing.Two) (ltb 3 (run_of k last Phasing.Two)) e)
     go false false false i j e = never _ e refl
 
-pub no_settled_phasing : ((w : ℕ) → settled rq w ≡ Settled.phasing) → ⊥
+pub no_settled_phasing : ((w : ℕ) → settled rq w ≡ Settled.Phasing) → ⊥
 unfolding settled intact_of ones_of
-no_settled_phasing claim = let z : Settled.error ≡ Settled.phasing = claim 86 in let y : ◌≡◌ {A = ℕ} 0 1 = cc in omega arith
+no_settled_phasing claim = let z : Settled.Error ≡ Settled.Phasing = claim 86 in let y : ◌≡◌ {A = ℕ} 0 1 = cc in omega arith
 
-pub no_mark_unprinted : ((w : ℕ) → printed_of true (settled rq w) ≡ 0) → ⊥
+pub no_mark_unprinted : ((w : ℕ) → printed_of true (settled rq w) ≡ None) → ⊥
 unfolding settled intact_of ones_of
-no_mark_unprinted claim = let z : error_mark ≡ 0 = claim 86 in omega arith
+no_mark_unprinted claim = let z : Some error_mark ≡ None = claim 86 in let y : ◌≡◌ {A = ℕ} 0 1 = cc in omega arith
 
 pub four_heard : after_word (after_word (after_word (after_word fresh_receiver alpha) rq) alpha) rq ≡ hearing (locked Phasing.Two)
 four_heard = refl

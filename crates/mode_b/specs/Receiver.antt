@@ -1,6 +1,6 @@
 -- 01, Mode B: the receiver.  R-111 to R-124
 -- Assumes nothing.
-use Rattle.std.specs.Prelude.{◌≡◌, Bool, true, false, not, ◌&&◌, ◌||◌, ℕ, ◌+◌, eqb, ltb, if◌then◌else◌}
+use Rattle.std.specs.Prelude.{◌≡◌, Bool, true, false, not, ◌&&◌, ◌||◌, ℕ, ◌+◌, eqb, ltb, if◌then◌else◌, Option, Some, None, Result, Ok, Err}
 use Rattle.signals.specs.Units.{intact_of}
 use Rattle.signals.specs.Meaning.{traffic_of, alpha, rq, error_mark}
 use Rattle.signals.specs.Numbers.{Answer, answered, refused}
@@ -11,17 +11,18 @@ use Rattle.mode_b.specs.declared.Hearing.{Hearing}
 use Rattle.mode_b.specs.declared.Hearing.TheVariants.{Searching, InPhase, Waiting}
 use Rattle.mode_b.specs.declared.Receiver.{Receiver}
 use Rattle.mode_b.specs.declared.Heard.{Heard}
-use Rattle.mode_b.specs.declared.Received.{Received}
+use Rattle.mode_b.specs.declared.Settled.{Settled}
+use Rattle.mode_b.specs.declared.BadReceiver.{BadReceiver}
 use Rattle.mode_b.specs.Sender.{carriage_return, line_feed}
 
 abbrev pub fresh_receiver : Receiver
 fresh_receiver = record { hearing = Searching 0 Phasing.One }
 
--- "A receiver step hears one word and answers the receiver and at most one printed signal, 255 for an error."  R-111. 0 stands for none.
+-- "A receiver step hears one word and answers the receiver and at most one printed signal, 255 for an error."  R-111
 abbrev pub hears : Hearing → Heard
-hears h = record { receiver = record { hearing = h }; printed = 0 }
+hears h = record { receiver = record { hearing = h }; printed = None }
 
-abbrev pub prints_at : Hearing → ℕ → Heard
+abbrev pub prints_at : Hearing → Option ℕ → Heard
 prints_at h w = record { receiver = record { hearing = h }; printed = w }
 
 -- "It searches until four intact signals in a row alternate α and RQ; RQ marks DX."  R-112, R-113. A run of k signals that ends in
@@ -55,38 +56,33 @@ searched k last w =
     else if eqb w rq then searched_on (run_of k last Phasing.Two) Phasing.Two
     else hears (Searching 0 Phasing.One)
 
--- "At an RX slot the position is settled": to a signal, to phasing, or to an error  R-115
-pub data Settled : Type 0 where
-  signal : (word : ℕ) → Settled
-  phasing : Settled
-  error : Settled
-
+-- "At an RX slot the position is settled": to a signal, to phasing, or to an error (`Settled`)  R-115
 --     alike     "both copies intact and alike, that signal"  R-116
 --     phasing   "RQ then α, phasing"                         R-117
 --     one       "only one intact, that one"                  R-118
 --     else      "otherwise an error"                         R-119
 unfoldable pub settled : ℕ → ℕ → Settled
 settled dx rx =
-    if intact_of dx && (intact_of rx && eqb dx rx) then signal dx
-    else if eqb dx rq && eqb rx alpha then phasing
-    else if intact_of dx && not (intact_of rx) then signal dx
-    else if intact_of rx && not (intact_of dx) then signal rx
-    else error
+    if intact_of dx && (intact_of rx && eqb dx rx) then Settled.Signal dx
+    else if eqb dx rq && eqb rx alpha then Settled.Phasing
+    else if intact_of dx && not (intact_of rx) then Settled.Signal dx
+    else if intact_of rx && not (intact_of dx) then Settled.Signal rx
+    else Settled.Error
 
 -- "Printing begins with the first settled return or line feed, which is printed; from then on traffic signals and error marks are
--- printed."  R-120, R-121: what is printed, 0 for nothing, and whether printing has begun
+-- printed."  R-120, R-121: what is printed, if anything, and whether printing has begun
 abbrev pub begins : ℕ → Bool
 begins w = eqb w carriage_return || eqb w line_feed
 
-abbrev pub printed_of : Bool → Settled → ℕ
-printed_of printing (signal w) = if printing || begins w then (if traffic_of w then w else 0) else 0
-printed_of printing phasing = 0
-printed_of printing error = if printing then error_mark else 0
+abbrev pub printed_of : Bool → Settled → Option ℕ
+printed_of printing (Settled.Signal w) = if printing || begins w then (if traffic_of w then Some w else None) else None
+printed_of printing Settled.Phasing = None
+printed_of printing Settled.Error = if printing then Some error_mark else None
 
 abbrev pub printing_after : Bool → Settled → Bool
-printing_after printing (signal w) = printing || begins w
-printing_after printing phasing = printing
-printing_after printing error = printing
+printing_after printing (Settled.Signal w) = printing || begins w
+printing_after printing Settled.Phasing = printing
+printing_after printing Settled.Error = printing
 
 -- In an RX slot the oldest waiting position is settled.
 unfoldable pub heard_rx : Phase → ℕ → Heard
@@ -129,20 +125,20 @@ receiving r w = receiving_by r.hearing w
 
 -- each case of the answer, by 01's number and the value beside it; and the receiver handed back: "A refusal prints and
 -- sends nothing .. and hands back the same station."  R-136, R-138, R-167
-abbrev pub said_received : Received → Answer Heard
-said_received (Received.Done h) = answered h
-said_received (Received.BadReceiver r) = refused 4 0
+abbrev pub said_received : Result Heard BadReceiver → Answer Heard
+said_received (Ok h) = answered h
+said_received (Err e) = refused 4 0
 
-abbrev pub handed_back : Received → Receiver
-handed_back (Received.Done h) = h.receiver
-handed_back (Received.BadReceiver r) = r
+abbrev pub handed_back : Result Heard BadReceiver → Receiver
+handed_back (Ok h) = h.receiver
+handed_back (Err e) = e.0
 
 abbrev pub receiver_after : Receiver → Answer Heard → Receiver
 receiver_after r (answered h) = h.receiver
 receiver_after r (refused n v) = r
 
 -- The promise of `receive`.  R-168
-abbrev pub Receives : Receiver → ℕ → Received → Type 0
+abbrev pub Receives : Receiver → ℕ → Result Heard BadReceiver → Type 0
 Receives r w a = (said_received a ≡ receiving r w) × (handed_back a ≡ receiver_after r (receiving r w))
 
 -- The end of reception once more, sentence by sentence, of a receiver in phase that has heard α in the last DX slot and hears α in
@@ -153,19 +149,19 @@ Receives r w a = (said_received a ≡ receiving r w) × (handed_back a ≡ recei
 --     second       the second of the three prints nothing,                                                          R-122
 --     third        nor does the third
 --     anew         "the receiver searches anew": as a fresh one, so none of these words counts for the search        R-124
-abbrev pub printed_in : Answer Heard → ℕ
+abbrev pub printed_in : Answer Heard → Option ℕ
 printed_in (answered h) = h.printed
-printed_in (refused n v) = 0
+printed_in (refused n v) = None
 
-abbrev pub printed_by : Receiver → ℕ → ℕ
+abbrev pub printed_by : Receiver → ℕ → Option ℕ
 printed_by r w = printed_in (receiving r w)
 
 abbrev pub after_word : Receiver → ℕ → Receiver
 after_word r w = receiver_after r (receiving r w)
 
 pub record Ends (p : Phase) (u v w : ℕ) : Type 0 where
-  pub at_the_end : printed_by (record { hearing = InPhase p }) alpha ≡ 0
+  pub at_the_end : printed_by (record { hearing = InPhase p }) alpha ≡ None
   pub waiting : printed_by (after_word (record { hearing = InPhase p }) alpha) u ≡ printed_of p.printing (settled p.second u)
-  pub second : printed_by (after_word (after_word (record { hearing = InPhase p }) alpha) u) v ≡ 0
-  pub third : printed_by (after_word (after_word (after_word (record { hearing = InPhase p }) alpha) u) v) w ≡ 0
+  pub second : printed_by (after_word (after_word (record { hearing = InPhase p }) alpha) u) v ≡ None
+  pub third : printed_by (after_word (after_word (after_word (record { hearing = InPhase p }) alpha) u) v) w ≡ None
   pub anew : after_word (after_word (after_word (after_word (record { hearing = InPhase p }) alpha) u) v) w ≡ fresh_receiver

@@ -1,9 +1,9 @@
 -- 01, Mode B: the sender.  R-101 to R-110
 -- Assumes nothing.
-use Rattle.std.specs.Prelude.{◌≡◌, List, [], ◌∷◌, ◌++◌, ℕ, ◌+◌, ◌*◌, ◌<◌, eqb, ltb, length, get_or, replicate, if◌then◌else◌}
+use Rattle.std.specs.Prelude.{◌≡◌, List, [], ◌∷◌, ◌++◌, ℕ, ◌+◌, ◌*◌, ◌<◌, eqb, ltb, length, get_or, replicate, if◌then◌else◌, Result, Ok, Err}
 use Rattle.signals.specs.Meaning.{word_no, traffic_of, alpha, rq}
 use Rattle.signals.specs.Numbers.{Answer, answered, refused, first_not}
-use Rattle.mode_b.specs.declared.Slot.{Slot}
+use Rattle.mode_b.specs.declared.SlotError.{SlotError}
 
 -- "Positions are numbered from 0."  R-101: by their place in a list. A position, by what is sent there: a phasing pair, a traffic
 -- signal, or α
@@ -79,12 +79,12 @@ slotting text number =
     else refused 6 (length (slots_of text))
 
 -- each case of the answer, by 01's number and the value beside it  R-167
-abbrev pub said_slot : Slot → Answer ℕ
-said_slot (Slot.Word w) = answered w
-said_slot Slot.TooLong = refused 7 8192
-said_slot (Slot.BadWord i) = refused 3 i
-said_slot (Slot.PastLast n) = refused 6 n
+abbrev pub said_slot : Result ℕ SlotError → Answer ℕ
+said_slot (Ok w) = answered w
+said_slot (Err SlotError.TooLong) = refused 7 8192
+said_slot (Err (SlotError.BadWord i)) = refused 3 i
+said_slot (Err (SlotError.PastLast n)) = refused 6 n
 
 -- The promise of `slot`.  R-168
-abbrev pub Slots : List ℕ → ℕ → Slot → Type 0
+abbrev pub Slots : List ℕ → ℕ → Result ℕ SlotError → Type 0
 Slots text number r = said_slot r ≡ slotting text number

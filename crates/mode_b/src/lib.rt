@@ -10,11 +10,9 @@ pub const CARRIAGE_RETURN: u8 = 120;
 
 pub const LINE_FEED: u8 = 108;
 
-// What the sender's call answers.
-#[derive(Clone, Copy)]
-pub enum Slot {
-    // The word of the slot.
-    Word(u8),
+// Why the sender's call has no word for a slot.
+#[derive(Clone, Copy, PartialEq, Eq)]
+pub enum SlotError {
     // 7: over 8,192 signals.
     TooLong,
     // 3: a word that is not traffic; the index of the first.
@@ -24,7 +22,7 @@ pub enum Slot {
 }
 
 // A phasing signal: phasing signal 1 is α, phasing signal 2 is RQ.
-#[derive(Clone, Copy)]
+#[derive(Clone, Copy, PartialEq, Eq)]
 pub enum Phasing {
     One,
     Two,
@@ -32,7 +30,7 @@ pub enum Phasing {
 
 // A receiver in phase: the DX words of three positions, the oldest first, whether the next slot is a DX slot, and whether printing has
 // begun. The words are as they were heard, intact or not; as it comes into phase all three are RQ.
-#[derive(Clone, Copy)]
+#[derive(Clone, Copy, PartialEq, Eq)]
 pub struct Phase {
     pub first: u8,
     pub second: u8,
@@ -44,7 +42,7 @@ pub struct Phase {
 // A receiver behind two successive α in DX (02, T-03): the DX word of the one position that still waits for its RX, whether printing
 // has begun, and how many words are still to be heard, 3 to 1. Behind the first of the three nothing waits: the word is 0, and nothing
 // is printed any more.
-#[derive(Clone, Copy)]
+#[derive(Clone, Copy, PartialEq, Eq)]
 pub struct Wait {
     pub word: u8,
     pub printing: bool,
@@ -53,7 +51,7 @@ pub struct Wait {
 
 // What a receiver is doing. The search run, and the last signal of it, exist only while it searches; the remaining wait only while it
 // waits.
-#[derive(Clone, Copy)]
+#[derive(Clone, Copy, PartialEq, Eq)]
 pub enum Hearing {
     Searching(u8, Phasing),
     InPhase(Phase),
@@ -61,25 +59,29 @@ pub enum Hearing {
 }
 
 // A receiver of mode B.
-#[derive(Clone, Copy)]
+#[derive(Clone, Copy, PartialEq, Eq)]
 pub struct Receiver {
     pub hearing: Hearing,
 }
 
-// What a receiver's step answers: the receiver, and the signal printed, 255 for an error, 0 for none.
-#[derive(Clone, Copy)]
-pub struct Heard {
-    pub receiver: Receiver,
-    pub printed: u8,
+// What a position is settled to by its two copies: a signal, by its word; phasing; or an error.
+#[derive(Clone, Copy, PartialEq, Eq)]
+pub enum Settled {
+    Signal(u8),
+    Phasing,
+    Error,
 }
 
-// What a receiver's call answers: the step done, or a refusal with the same receiver.
-#[derive(Clone, Copy)]
-pub enum Received {
-    Done(Heard),
-    // 4: a search run over 3, or a remaining wait over 3
-    BadReceiver(Receiver),
+// What a receiver's step answers: the receiver, and the signal that it prints, if any; 255 for an error.
+#[derive(Clone, Copy, PartialEq, Eq)]
+pub struct Heard {
+    pub receiver: Receiver,
+    pub printed: Option<u8>,
 }
+
+// 4: a receiver with a search run over 3, or a remaining wait over 3, handed back as it was.
+#[derive(Clone, Copy, PartialEq, Eq)]
+pub struct BadReceiver(pub Receiver);
 
 impl Receiver {
     // A receiver that has heard nothing.

@@ -22,7 +22,7 @@ pub fn requests(role: Role) -> Words
 pub fn asked(heard: Number, number: Number, block: Words) -> Doing
     ensures { result ≡ asked heard number block }
 {
-    if heard.same(number) {
+    if heard == number {
         return Doing::Repeats(block);
     }
     Doing::Takes(number.other())
@@ -48,7 +48,7 @@ pub fn ends_again(number: Number, total: u8) -> Doing
 pub fn ended(heard: Number, number: Number, total: u8) -> Doing
     ensures { result ≡ ended heard number total }
 {
-    if heard.same(number) {
+    if heard == number {
         return ends_again(number, total);
     }
     Doing::Rests(0, mode_a::SILENCE)

@@ -13,7 +13,7 @@ use Rattle.mode_a.specs.Station.{words, no_seven}
 use Rattle.answering.specs.declared.Due.{Due}
 use Rattle.answering.specs.Blocks.{told_as, IsDue}
 use Rattle.reasons.specs.declared.Reason.{Reason}
-use Rattle.naming.specs.Places.{timed, due_by, telling_by}
+use Rattle.naming.specs.Places.{due_by, telling_by}
 
 abbrev pub is_told : Part → Bool
 is_told Part.None = false
@@ -26,13 +26,6 @@ ones = words 1 1 1
 
 abbrev weight : Gathered → ℕ
 weight g = g.got.0 + g.got.2 + g.got.4
-
--- what is none of the three blocks is judged by its words
-pub nothing_due : (late : Bool) (s : Stage) (b : Words) (r : Reason) → timed late r ≡ telling_by late s (told_as Part.None b) r
-nothing_due late Stage.One b r = refl
-nothing_due late Stage.Two b r = refl
-nothing_due late Stage.Three b r = refl
-nothing_due late Stage.Four b r = refl
 
 -- d is what the block p is to the stage s. Another is ruled out by a burst whose signals are not those gathered: the row would go on where
 -- it repeats, or gather what it leaves out

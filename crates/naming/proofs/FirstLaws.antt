@@ -10,32 +10,12 @@ use Rattle.signals.specs.Meaning.{cs1, cs2, cs3, cs4, cs5, rq}
 use Rattle.identity.specs.Table3.{is_identity}
 use Rattle.mode_a.specs.declared.Number.TheVariants.{One, Two}
 use Rattle.mode_a.specs.declared.Identified.{Identified}
-use Rattle.mode_a.specs.Heard.{First, Cs, Cs3, Rq, Else, Further, Cs4, Cs5, Letter, Other, further_of, first_of}
-use Rattle.mode_a.specs.Rows.{is_rq}
+use Rattle.mode_a.specs.Heard.{Cs, Cs3, Rq, Else, Cs4, Cs5, Letter, Other, further_of, first_of}
 use Rattle.mode_a.proofs.HeardLaws.{first_else, further_letter}
 use Rattle.reasons.specs.declared.Reason.{Reason}
-use Rattle.naming.specs.declared.Signal.{Signal}
 use Rattle.naming.specs.Places.{signal_of, timed, judged_one, turning_by, sent_out, calling3_by, comparing_by, finishing_by}
 
 module _ (w : ℕ) where
-  pub no_signal_lem : (w ≡ cs1 → ⊥) → (w ≡ cs2 → ⊥) → (w ≡ cs3 → ⊥) → signal_of (first_of w) ≡ Signal.Other
-  unfolding first_of
-  no_signal_lem a b c = rw (ne_eqb w cs1 a, ne_eqb w cs2 b, ne_eqb w cs3 c) (go (eqb w rq))
-    where
-      go : (t : Bool) → signal_of (if t then Rq else Else (further_of w)) ≡ Signal.Other
-      go true = refl
-      go false = refl
-
-  pub no_rq : (w ≡ rq → ⊥) → is_rq (first_of w) ≡ false
-  unfolding first_of
-  no_rq a = rw (ne_eqb w rq a) (go (eqb w cs1) (eqb w cs2) (eqb w cs3))
-    where
-      go : (p q r : Bool) → is_rq (if p then Cs One else if q then Cs Two else if r then Cs3 else Else (further_of w)) ≡ false
-      go true q r = refl
-      go false true r = refl
-      go false false true = refl
-      go false false false = refl
-
   pub turning_else_lem : (late : Bool) (rest : Reason) → (w ≡ cs3 → ⊥) → turning_by late rest (signal_of (first_of w)) ≡ timed late rest
   unfolding first_of
   turning_else_lem late rest a = rw (ne_eqb w cs3 a) (go (eqb w cs1) (eqb w cs2) (eqb w rq))
@@ -45,14 +25,6 @@ module _ (w : ℕ) where
       go false true r = refl
       go false false true = refl
       go false false false = refl
-
-  pub first_cs4 : w ≡ cs4 → first_of w ≡ Else Cs4
-  unfolding first_of further_of
-  first_cs4 e = rw e
-
-  pub first_cs5 : w ≡ cs5 → first_of w ≡ Else Cs5
-  unfolding first_of further_of
-  first_cs5 e = rw e
 
   pub calling_3_else : (sent : ℕ) → (w ≡ cs3 → ⊥) → (w ≡ cs4 → ⊥) → (w ≡ cs5 → ⊥) → calling3_by sent w (first_of w) ≡ sent_out sent (judged_one w)
   unfolding first_of further_of

@@ -39,13 +39,6 @@ first_of_three may x y z = go (may x) (may y) (may z)
     go true false c = refl
     go false b c = refl
 
--- behind the third word there is none
-pub past_three : (b : Words) (i : ℕ) → (i ≡ 0 → ⊥) → (i ≡ 1 → ⊥) → (i ≡ 2 → ⊥) → get_or (list_of b) i 0 ≡ 0
-past_three b zero x y z = absurd (x refl)
-past_three b (suc zero) x y z = absurd (y refl)
-past_three b (suc (suc zero)) x y z = absurd (z refl)
-past_three b (suc (suc (suc i))) x y z = refl
-
 -- of the first n entries: the first that fails, where it is among them, and none, where it is not
 module _ (may : ℕ → Bool) where
   within : (l : List ℕ) (n : ℕ) → first_not may l < n → first_not may (take n l) ≡ first_not may l

@@ -2,8 +2,10 @@
 --     FirstLaws   what a first word is, in the order in which the code asks
 --     JudgeLaws   the earliest bad word, and the earliest RQ, of the words read
 --     DueLaws     an identification block, by what it is to the stage
+--     NumberLaws  `==` of two numbers
 --     PlaceLaws   the reason for a station's answer is that of its place
-mod FirstLaws
+pub mod FirstLaws
 mod JudgeLaws
 mod DueLaws
+mod NumberLaws
 pub mod PlaceLaws

@@ -1,7 +1,6 @@
 -- The reason for the answer of a station that stands at a place is that of the place: one law a place, over the row. Assumes nothing.
 use mathlib.Core.Path.{◌≡◌, refl}
 use mathlib.Core.Bool.{Bool, true, false, not, ◌&&◌, ◌||◌}
-use mathlib.Core.List.{List, [], ◌∷◌}
 use Prim.Native.Nat.{ℕ}
 use lib.Dec.{eqb, leb}
 use Rattle.std.specs.Prelude.{if◌then◌else◌}
@@ -29,7 +28,7 @@ use Rattle.mode_a.specs.declared.Doing.{Doing}
 use Rattle.mode_a.specs.declared.Doing.TheVariants.{Repeats, Goes, Takes, Receives, Opens, Accepts, Rests, Answers, Listens, Answers3, Meets, Again}
 use Rattle.mode_a.specs.Identification.{Told, nothing_told, block_1, block_2, block_3, told_in}
 use Rattle.mode_a.specs.Station.{single, silence, βαβ, ααα, RQ×3, no_seven, other, same, asks_for, marks, list_of}
-use Rattle.mode_a.specs.Heard.{First, Cs, Cs3, Rq, Else, Further, Cs4, Cs5, Letter, Other, heard_of, first_of, is_block, is_words, call_of, call3_of}
+use Rattle.mode_a.specs.Heard.{First, Cs, Cs3, Rq, Else, Cs4, Cs5, Letter, Other, heard_of, first_of, is_block, is_words, call_of, call3_of}
 use Rattle.mode_a.specs.Over.{listened_all}
 use Rattle.mode_a.specs.Rows.{sending, is_rq, turning_else, turning, opening, ending, both_heard, all_heard, heard_then, calling, calling3, comparing, finishing, at_stage, hearing, is_last}
 use Rattle.mode_a.specs.Step.{is_over}

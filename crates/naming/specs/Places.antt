@@ -2,7 +2,7 @@
 -- station. In each, `late` says that 31 repetitions in a row were before this step, so that one more is the 32nd. That each is the reason of
 -- `reasons`, `reason_of`, for a station at that place is a law a place (proofs/PlaceLaws.antt).  R-265 to R-287
 -- Assumes nothing.
-use Rattle.std.specs.Prelude.{Bool, true, false, not, ◌&&◌, ◌||◌, List, [], ◌∷◌, ℕ, eqb, leb, if◌then◌else◌}
+use Rattle.std.specs.Prelude.{Bool, ◌&&◌, ◌||◌, [], ◌∷◌, ℕ, eqb, leb, if◌then◌else◌}
 use Rattle.signals.specs.declared.Case.{Case}
 use Rattle.identity.specs.declared.Seven.{Seven}
 use Rattle.identity.specs.Sums.{check_sum1, check_sum2, check_sum3}
@@ -20,7 +20,7 @@ use Rattle.mode_a.specs.declared.Offer.{Offer}
 use Rattle.mode_a.specs.declared.Peer.{Peer}
 use Rattle.mode_a.specs.Identification.{Told, told_in}
 use Rattle.mode_a.specs.Station.{βαβ, ααα, RQ×3, no_seven, same, marks, list_of}
-use Rattle.mode_a.specs.Heard.{First, Cs, Cs3, Rq, Else, Further, Cs4, Cs5, Letter, Other, first_of, is_block, is_words, call_of, call3_of}
+use Rattle.mode_a.specs.Heard.{First, Cs, Cs3, Rq, Else, Cs4, Cs5, Letter, Other, first_of, is_block, is_words, call_of, call3_of}
 use Rattle.mode_a.specs.Over.{listened_all}
 use Rattle.mode_a.specs.Rows.{is_rq, both_heard, all_heard, is_last, hearing}
 use Rattle.answering.specs.declared.Due.{Due}

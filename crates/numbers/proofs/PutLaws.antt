@@ -4,12 +4,14 @@ use mathlib.Core.Bool.{Bool, true, false}
 use mathlib.Core.List.{List, [], ◌∷◌, ◌++◌}
 use Prim.Native.Nat.{ℕ, suc, ◌+◌, ◌≤◌, ◌<◌}
 use native.Mathlib.Omega.{arith}
+use native.Mathlib.Numerals.{add-one}
 use lib.Dec.{leb}
-use lib.ListN.{length, length-append}
-use lib.Seq.{sets, length-sets, set_out}
+use lib.ListN.{length, length-append, get_or, take}
+use lib.Seq.{sets, length-sets, set_out, take-suc}
 use borrow.Author.Tests.{leb-true, leb-false}
 use Rattle.laws.proofs.Writes.{sets_append}
-use Rattle.numbers.specs.Writing.{Puts}
+use Rattle.numbers.specs.declared.Line.{Line}
+use Rattle.numbers.specs.Writing.{Puts, PutsOn}
 
 -- past the end nothing is stored
 pub sets_out : (room : List ℕ) (at : ℕ) (bytes : List ℕ) → length room ≤ at → sets room at bytes ≡ room
@@ -38,3 +40,14 @@ puts_then {room} {at} {l} {m} {r} {r'} {mid} {after} p q =
           ∙ ap (λ (s : List ℕ). sets s (at + length l) m) p.holds
           ∙ sets_append room at l m;
     }
+
+-- the same of a line
+pub puts_on_none : (l : Line) → PutsOn l [] l
+puts_on_none l = record { puts = puts_none l.room.now l.at; same_reference = refl }
+
+pub puts_on_then : {a b c : Line} {l m : List ℕ} → PutsOn a l b → PutsOn b m c → PutsOn a (l ++ m) c
+puts_on_then p q = record { puts = puts_then p.puts q.puts; same_reference = q.same_reference ∙ p.same_reference }
+
+-- one byte more of those that are put
+pub put_more : (a b c : Line) (bytes : List ℕ) (i : ℕ) → i < length bytes → PutsOn a (take i bytes) b → PutsOn b (get_or bytes i 0 ∷ []) c → PutsOn a (take (i + 1) bytes) c
+put_more a b c bytes i h p q = rw (add-one, take-suc bytes i 0 h) (puts_on_then p q)

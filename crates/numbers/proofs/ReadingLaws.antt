@@ -10,16 +10,16 @@ use lib.Dec.{ltb}
 use lib.ListN.{length}
 use borrow.Author.Tests.{le-ltb, ltb-false, ne_eqb}
 use Rattle.numbers.specs.declared.Reader.{Reader}
-use Rattle.numbers.specs.declared.Event.TheVariants.{Nothing, Word, Over, NoDigit}
-use Rattle.numbers.specs.declared.Took.{Took}
+use Rattle.std.specs.Prelude.{Some, None, Ok, Err}
+use Rattle.numbers.specs.declared.NumberError.TheVariants.{Over, NoDigit}
 use Rattle.numbers.specs.Reading.{is_white, is_digit, up_to_white, runs_from, listed_by, listed, listing}
-use Rattle.numbers.specs.Steps.{between, fresh_reader, further, first_byte, end_brings, taking_digit, taking, telling, reading}
+use Rattle.numbers.specs.Steps.{Took, between, fresh_reader, further, first_byte, value_so_far, end_brings, taking_digit, taking, telling, reading}
 use Rattle.numbers.proofs.DigitLaws.{Kind, digit, white, other, kind, digit_bounds}
 use Rattle.numbers.proofs.JudgedLaws.{judged_from, judged_from_lem}
 
 -- a reader within a number
 abbrev within : ℕ → ℕ → ℕ → Reader
-within p s v = record { place = p; start = s; value = v; begun = true }
+within p s v = record { place = p; begun = Some (record { start = s; value = v }) }
 
 -- what is left to list behind it
 abbrev WithinLists : List ℕ → Type 0
@@ -38,19 +38,19 @@ further_one p h = rw (ne_eqb p 18446744073709551615 (λ e. omega arith))
 
 module _ (b : ℕ) (bs : List ℕ) where
   -- what a byte makes of the reader
-  took_digit : (r : Reader) → is_digit b ≡ true → r.value * 10 + (b - 48) ≤ 255 → suc r.place < 2 ^ 64 → taking r b ≡ record { reader = within (r.place + 1) (first_byte r.begun r.start r.place) (r.value * 10 + (b - 48)); event = Nothing }
+  took_digit : (r : Reader) → is_digit b ≡ true → value_so_far r * 10 + (b - 48) ≤ 255 → suc r.place < 2 ^ 64 → taking r b ≡ record { reader = within (r.place + 1) (first_byte r) (value_so_far r * 10 + (b - 48)); event = Ok None }
   unfolding taking taking_digit
-  took_digit r d h k = rw (d, le-ltb 255 (r.value * 10 + (b - 48)) h, further_one r.place k)
+  took_digit r d h k = rw (d, le-ltb 255 (value_so_far r * 10 + (b - 48)) h, further_one r.place k)
 
-  took_over : (r : Reader) → is_digit b ≡ true → ltb 255 (r.value * 10 + (b - 48)) ≡ true → taking r b ≡ record { reader = r; event = Over (first_byte r.begun r.start r.place) }
+  took_over : (r : Reader) → is_digit b ≡ true → ltb 255 (value_so_far r * 10 + (b - 48)) ≡ true → taking r b ≡ record { reader = r; event = Err (Over (first_byte r)) }
   unfolding taking taking_digit
   took_over r d h = rw (d, h)
 
-  took_white : (r : Reader) → is_digit b ≡ false → is_white b ≡ true → suc r.place < 2 ^ 64 → taking r b ≡ record { reader = between (r.place + 1); event = end_brings r }
+  took_white : (r : Reader) → is_digit b ≡ false → is_white b ≡ true → suc r.place < 2 ^ 64 → taking r b ≡ record { reader = between (r.place + 1); event = Ok (end_brings r) }
   unfolding taking
   took_white r d w k = rw (d, w, further_one r.place k)
 
-  took_other : (r : Reader) → is_digit b ≡ false → is_white b ≡ false → taking r b ≡ record { reader = r; event = NoDigit (first_byte r.begun r.start r.place) }
+  took_other : (r : Reader) → is_digit b ≡ false → is_white b ≡ false → taking r b ≡ record { reader = r; event = Err (NoDigit (first_byte r)) }
   unfolding taking
   took_other r d w = rw (d, w)
 
@@ -95,7 +95,7 @@ module _ (b : ℕ) (bs : List ℕ) where
   within_next rest after (digit d w) p s v h k = within_digit rest d w p s v k (ltb 255 (v * 10 + (b - 48))) refl
   within_next rest after (white d w) p s v h k =
       reading_next (within p s v) b bs _ (took_white (within p s v) d w (omega arith))
-      ∙ ap (telling (Word v)) (after (p + 1) (omega arith))
+      ∙ ap (telling (Ok (Some v))) (after (p + 1) (omega arith))
       ∙ sym (rw (run_white w, runs_white p false w))
   within_next rest after (other d w) p s v h k =
       reading_next (within p s v) b bs _ (took_other (within p s v) d w) ∙ sym (rw (run_more w, d))

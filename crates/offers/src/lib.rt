@@ -31,12 +31,8 @@ pub struct Going {
 fn ends(s: Station, number: Number) -> Reply
     ensures { result ≡ takes_offer s number Offer.End }
 {
-    let ended = Ended {
-        number: number,
-        total: 1,
-    };
     Reply {
-        station: stands::moved_to(s, Place::Ending(ended)),
+        station: stands::moved_to(s, Place::Ending(Ended { number, total: 1 })),
         sent: mode_a::ALPHAS,
         printed: mode_a::SILENCE,
         taken: true,
@@ -48,8 +44,8 @@ fn block_offered(block: Words, taken: bool) -> Going
     ensures { result ≡ block_offered block taken }
 {
     Going {
-        block: block,
-        taken: taken,
+        block,
+        taken,
         ends: false,
         behind: Owed::Nothing,
     }
@@ -86,23 +82,14 @@ fn next_owed(code: Code, owed: Owed) -> Going
     }
 }
 
-fn code_of(s: Station) -> Code
-    ensures { result ≡ s.own.code }
-{
-    let own = s.own;
-    own.code
-}
-
 // What is owed goes before the offer. It is told apart from `takes`: each of the two is small enough for the compiler to put it into both its
 // callers, so that no answer is built in memory and copied.
 pub fn next(s: Station, offer: Offer) -> Going
     ensures { result ≡ next_of s.own.code s.owed offer }
 {
-    let owed = s.owed;
-    match owed {
+    match s.owed {
         Owed::Nothing => next_offered(offer),
-        Owed::Back(_) => next_owed(code_of(s), owed),
-        Owed::Keep(_) => next_owed(code_of(s), owed),
+        owed => next_owed(s.own.code, owed),
     }
 }
 
@@ -113,15 +100,13 @@ pub fn takes(s: Station, number: Number, next: Going) -> Reply
     if next.ends {
         return ends(s, number);
     }
-    let block = next.block;
-    let behind = next.behind;
     let held = Held {
-        number: number,
-        block: block,
+        number,
+        block: next.block,
     };
     Reply {
-        station: stands::owing_at(s, Place::Sending(held), behind),
-        sent: block,
+        station: stands::owing_at(s, Place::Sending(held), next.behind),
+        sent: next.block,
         printed: mode_a::SILENCE,
         taken: next.taken,
     }
@@ -132,16 +117,14 @@ fn called(s: Station, to: Identity) -> Reply
     ensures { result ≡ called s to }
 {
     let call = Called {
-        to: to,
+        to,
         sent: 1,
         last: Mark::None,
     };
-    let block = to.block_1();
-    let nothing = mode_a::SILENCE;
     Reply {
         station: stands::begun(s, Role::Master, Place::Calling(call)),
-        sent: block,
-        printed: nothing,
+        sent: to.block_1(),
+        printed: mode_a::SILENCE,
         taken: true,
     }
 }
@@ -150,37 +133,22 @@ fn called(s: Station, to: Identity) -> Reply
 fn called3(s: Station, to: Seven) -> Reply
     ensures { result ≡ called3 s to }
 {
-    let call = Called3 { to: to, sent: 1 };
-    let block = Words(to.0, signals::RQ, to.1);
-    let nothing = mode_a::SILENCE;
+    let call = Called3 { to, sent: 1 };
     Reply {
         station: stands::begun(s, Role::Master, Place::Calling3(call)),
-        sent: block,
-        printed: nothing,
+        sent: Words(to.0, signals::RQ, to.1),
+        printed: mode_a::SILENCE,
         taken: true,
     }
-}
-
-// One less, and never below none.
-fn one_less(wait: u8) -> u8
-    ensures { result ≡ wait - 1 }
-{
-    if wait == 0 {
-        return 0;
-    }
-    wait - 1
 }
 
 // Stand-by that neither answers nor places a call: one step less is left to wait.
 fn waits_on(s: Station, w: Waiting) -> Reply
     ensures { result ≡ waits_on s w }
 {
-    let heard = w.heard;
-    let heard3 = w.heard3;
     let waiting = Waiting {
-        wait: one_less(w.wait),
-        heard: heard,
-        heard3: heard3,
+        wait: w.wait.saturating_sub(1),
+        ..w
     };
     stands::sends(
         stands::moved_to(s, Place::StandBy(waiting)),
@@ -189,14 +157,13 @@ fn waits_on(s: Station, w: Waiting) -> Reply
 }
 
 // Whether this very identity is barred.
+#[tactic(auto, unfolding(identity::specs::Sums::same_seven))]
 fn bars(other: Peer, to: Seven) -> bool
     ensures { result ≡ bars other to }
 {
     match other {
-        Peer::Nobody => false,
-        Peer::Four(_) => false,
-        Peer::Known(_) => false,
-        Peer::Barred(barred) => barred.same(to),
+        Peer::Barred(barred) => barred == to,
+        _ => false,
     }
 }
 
@@ -204,21 +171,18 @@ fn bars(other: Peer, to: Seven) -> bool
 pub fn has_to_wait(other: Peer, wait: u8, to: Seven) -> bool
     ensures { result ≡ (leb 1 wait && bars other to) }
 {
-    if wait < 1 {
-        return false;
-    }
-    bars(other, to)
+    1 <= wait && bars(other, to)
 }
 
 // Stand-by that answers no call and is offered a three-block call.
 fn listens3(s: Station, w: Waiting, to: Seven) -> Reply
     ensures { result ≡ listens s w (Offer.Call3 to) }
 {
-    let other = s.other;
-    if has_to_wait(other, w.wait, to) {
-        return waits_on(s, w);
+    if has_to_wait(s.other, w.wait, to) {
+        waits_on(s, w)
+    } else {
+        called3(s, to)
     }
-    called3(s, to)
 }
 
 // Stand-by that answers no call: a call offered is placed where no step is left to wait, a three-block call also within the wait unless
@@ -227,16 +191,8 @@ pub fn listens(s: Station, w: Waiting, offer: Offer) -> Reply
     ensures { result ≡ listens s w offer }
 {
     match offer {
-        Offer::Text(_) => waits_on(s, w),
-        Offer::Over => waits_on(s, w),
-        Offer::End => waits_on(s, w),
-        Offer::Nothing => waits_on(s, w),
-        Offer::Call(to) => {
-            if w.wait == 0 {
-                return called(s, to);
-            }
-            waits_on(s, w)
-        }
+        Offer::Call(to) if w.wait == 0 => called(s, to),
         Offer::Call3(to) => listens3(s, w, to),
+        _ => waits_on(s, w),
     }
 }

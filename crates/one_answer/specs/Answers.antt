@@ -5,7 +5,7 @@
 -- `sends t w` is an answer that leaves the station t, sends w, prints nothing and takes no offer; `staying` the same station with the count
 -- one more; `moved_to s p` the station at the place p, with count 0; `rested s n` the station at Stand-by, nobody at the other end.
 -- Assumes nothing.
-use Rattle.std.specs.Prelude.{◌≡◌, Bool, true, false, not, ℕ, ◌+◌, ◌<◌, eqb, if◌then◌else◌}
+use Rattle.std.specs.Prelude.{◌≡◌, Bool, true, false, not, ℕ, ◌+◌, ◌<◌, eqb, if◌then◌else◌, Ok}
 use Rattle.signals.specs.Units.{intact_of}
 use Rattle.signals.specs.Meaning.{alpha, rq, cs1, cs3, cs4}
 use Rattle.signals.specs.Numbers.{answered, refused}
@@ -34,7 +34,6 @@ use Rattle.mode_a.specs.declared.Listening.{Listening}
 use Rattle.mode_a.specs.declared.Station.{Station}
 use Rattle.mode_a.specs.declared.Doing.TheVariants.{Repeats, Answers, Listens, Answers3}
 use Rattle.mode_a.specs.declared.Reply.{Reply}
-use Rattle.mode_a.specs.declared.Stepped.{Stepped}
 use Rattle.mode_a.specs.Calls.{next_block, next_block3}
 use Rattle.mode_a.specs.Identification.{Told, nothing_told, block_1, block_2, block_3, identity_block, with_1, with_2, with_3}
 use Rattle.mode_a.specs.Station.{single, silence, βαβ, ααα, RQ×3, other, asks_for, mark_of, marks, list_of}
@@ -44,7 +43,6 @@ use Rattle.mode_a.specs.Rows.{requests}
 use Rattle.mode_a.specs.Step.{stands_at, moved_to, cancelled_to, heard_at, sends, takes, owing, traffic_in, is_over, rested, begun, called, called3, waits_on, knowing, meets, ends, turns, unidentified, stepping, Steps}
 use Rattle.runs.specs.Runs.{accepting, next_stage}
 use Rattle.reasons.specs.declared.Reason.{Reason}
-use Rattle.reasons.specs.declared.Why.{Why}
 use Rattle.reasons.specs.Reasons.{heard_by, row_at, not_rq, reason_of, explaining, Explains}
 use Rattle.reasons.specs.Conditions.{first_heard, Earliest}
 
@@ -198,7 +196,7 @@ AnswersForReasons = (s : Station) (b : Words) (o : Offer) (a : Reply) → steppi
 
 abbrev pub CannotDisagree : Type 0
 CannotDisagree =
-    (s : Station) (b : Words) (o : Offer) (a : Reply) (r : Reason) → Steps s b o (Stepped.Done a) → Explains s b o (Why.Because r) → Does s b o r a
+    (s : Station) (b : Words) (o : Offer) (a : Reply) (r : Reason) → Steps s b o (Ok a) → Explains s b o (Ok r) → Does s b o r a
 
 -- Nothing is left open by a line: the station, the burst, the offer and the reason have one answer  R-293
 abbrev pub OneAnswerEach : Type 0

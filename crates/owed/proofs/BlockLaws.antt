@@ -132,3 +132,13 @@ module _ (c : Code) (k : ℕ) (f : Filled c.length k) (i : ℕ) where
 pub block_keep : (c : Code) (i : ℕ) → block_owed c (Owed.Keep i) ≡ block_at c i
 unfolding block_owed answer_of
 block_keep c i = keeping_at c i
+
+-- where nothing is owed
+module _ (c : Code) where
+  pub block_none : block_owed c Owed.Nothing ≡ βββ
+  unfolding block_owed answer_of
+  block_none = refl
+
+  pub then_none : owed_then c Owed.Nothing ≡ Owed.Nothing
+  unfolding owed_then answer_of
+  then_none = refl

@@ -21,6 +21,7 @@ fn filled(length: u8) -> u8
 }
 
 // Whether the answer has the block that is owed.
+#[tactic(auto, using(crate::proofs::BlockLaws::exists_back, crate::proofs::BlockLaws::exists_keep), unfolding(mode_a::specs::Answerback::owed_exists))]
 pub fn exists(code: Code, owed: Owed) -> bool
     ensures { result ≡ owed_exists code owed }
 {
@@ -35,28 +36,16 @@ pub fn exists(code: Code, owed: Owed) -> bool
 fn words_at(code: Code, index: u8) -> Words
     ensures { result ≡ get_or (blocks_in code) index βββ }
 {
-    if 6 < index {
-        return BETAS;
+    match index {
+        0 => code.first,
+        1 => code.second,
+        2 => code.third,
+        3 => code.fourth,
+        4 => code.fifth,
+        5 => code.sixth,
+        6 => code.seventh,
+        _ => BETAS,
     }
-    if index == 0 {
-        return code.first;
-    }
-    if index == 1 {
-        return code.second;
-    }
-    if index == 2 {
-        return code.third;
-    }
-    if index == 3 {
-        return code.fourth;
-    }
-    if index == 4 {
-        return code.fifth;
-    }
-    if index == 5 {
-        return code.sixth;
-    }
-    code.seventh
 }
 
 // The word, or β behind the end of the code.
@@ -64,12 +53,14 @@ fn or_beta(word: u8, place: u16, length: u8) -> u8
     ensures { result ≡ orβ word place length }
 {
     if place < length as u16 {
-        return word;
+        word
+    } else {
+        signals::BETA
     }
-    signals::BETA
 }
 
 // The block of the code at an index, with β behind its end: all β where the code is at its end before it.
+#[tactic(auto, unfolding(crate::specs::Blocks::block_at))]
 fn code_block(code: Code, index: u8) -> Words
     ensures { result ≡ block_at code index }
 {
@@ -83,6 +74,7 @@ fn code_block(code: Code, index: u8) -> Words
 }
 
 // The block that is owed next; βββ where none is.
+#[tactic(auto, using(crate::proofs::BlockLaws::block_keep, crate::proofs::BlockLaws::block_none))]
 pub fn block(code: Code, owed: Owed) -> Words
     ensures { result ≡ block_owed code owed }
 {
@@ -90,15 +82,17 @@ pub fn block(code: Code, owed: Owed) -> Words
         Owed::Nothing => BETAS,
         Owed::Back(index) => {
             if index == filled(code.length) + 2 {
-                return OVER;
+                OVER
+            } else {
+                code_block(code, index)
             }
-            code_block(code, index)
         }
         Owed::Keep(index) => code_block(code, index),
     }
 }
 
 // What is owed behind that block.
+#[tactic(auto, using(crate::proofs::BlockLaws::then_none))]
 pub fn then(code: Code, owed: Owed) -> Owed
     ensures { result ≡ owed_then code owed }
 {
@@ -106,15 +100,17 @@ pub fn then(code: Code, owed: Owed) -> Owed
         Owed::Nothing => Owed::Nothing,
         Owed::Back(index) => {
             if index < filled(code.length) + 2 {
-                return Owed::Back(index + 1);
+                Owed::Back(index + 1)
+            } else {
+                Owed::Nothing
             }
-            Owed::Nothing
         }
         Owed::Keep(index) => {
             if index < filled(code.length) + 1 {
-                return Owed::Keep(index + 1);
+                Owed::Keep(index + 1)
+            } else {
+                Owed::Nothing
             }
-            Owed::Nothing
         }
     }
 }

@@ -21,6 +21,7 @@ use mathlib.Core.Path.{◌≡◌, refl, ap, sym, ◌∙◌}
 use mathlib.Core.Bool.{true, true≢false, false≢true}
 use Prim.Native.Nat.{ℕ}
 use native.Mathlib.Omega.{arith}
+use Rattle.std.specs.Prelude.{Ok}
 use Rattle.signals.specs.Meaning.{word_no, cs1, cs2, cs3}
 use Rattle.signals.specs.Numbers.{Answer, first_not}
 use Rattle.mode_a.specs.declared.Words.{Words}
@@ -28,7 +29,6 @@ use Rattle.mode_a.specs.declared.Place.{Place}
 use Rattle.mode_a.specs.declared.Offer.{Offer}
 use Rattle.mode_a.specs.declared.Station.{Station}
 use Rattle.mode_a.specs.declared.Reply.{Reply}
-use Rattle.mode_a.specs.declared.Stepped.{Stepped}
 use Rattle.identity.specs.Table3.{is_identity}
 use Rattle.identity.specs.Sums.{is_callable7}
 use Rattle.mode_a.specs.Calls.{is_callable, call_block1, call_block2, next_block}
@@ -107,12 +107,12 @@ unfolding stepping sound owed_exists passes code_signals holds_neither done firs
 no_call_block_forgotten e = false≢true e
 
 -- behind one call burst, and behind the 128th
-pub no_block_1_sent_twice : (r : Reply) → r.sent ≡ call_block1 coast → Steps (called_so 1) silence Offer.Nothing (Stepped.Done r) → ⊥
+pub no_block_1_sent_twice : (r : Reply) → r.sent ≡ call_block1 coast → Steps (called_so 1) silence Offer.Nothing (Ok r) → ⊥
 unfolding stepping sound owed_exists passes code_signals holds_neither done first_not heard_of first_of is_words call_of call3_of is_callable is_callable7 is_identity next_block
 no_block_1_sent_twice r e p =
     true≢false (sym (ap (λ (w : Words). is_words w (call_block1 coast)) e) ∙ ap (λ (a : Answer Reply). is_words (sent_in a) (call_block1 coast)) p.0)
 
-pub no_call_of_129_bursts : (r : Reply) → is_calling r.station.place ≡ true → Steps (called_so 128) silence Offer.Nothing (Stepped.Done r) → ⊥
+pub no_call_of_129_bursts : (r : Reply) → is_calling r.station.place ≡ true → Steps (called_so 128) silence Offer.Nothing (Ok r) → ⊥
 unfolding stepping sound owed_exists passes code_signals holds_neither done first_not heard_of first_of is_words call_of call3_of is_callable is_callable7 is_identity
 no_call_of_129_bursts r e p =
     true≢false (sym e ∙ ap (λ (a : Answer Reply). is_calling (station_after (called_so 128) a).place) p.0)
@@ -121,11 +121,11 @@ no_call_of_129_bursts r e p =
 abbrev cs1_heard : Station
 cs1_heard = next (called_so 1) one
 
-pub no_call_completed_by_cs1_cs2 : (r : Reply) → in_traffic r.station.place ≡ true → Steps cs1_heard (single cs2) Offer.Nothing (Stepped.Done r) → ⊥
+pub no_call_completed_by_cs1_cs2 : (r : Reply) → in_traffic r.station.place ≡ true → Steps cs1_heard (single cs2) Offer.Nothing (Ok r) → ⊥
 unfolding stepping sound owed_exists passes code_signals holds_neither done first_not heard_of first_of is_words call_of call3_of is_callable is_callable7 is_identity
 no_call_completed_by_cs1_cs2 r e p = true≢false (sym e ∙ ap (λ (a : Answer Reply). in_traffic (station_after cs1_heard a).place) p.0)
 
-pub no_wait_that_stands_still : (r : Reply) → r.station.place ≡ resting 128 → Steps (waits_so 128) silence Offer.Nothing (Stepped.Done r) → ⊥
+pub no_wait_that_stands_still : (r : Reply) → r.station.place ≡ resting 128 → Steps (waits_so 128) silence Offer.Nothing (Ok r) → ⊥
 unfolding stepping sound owed_exists passes code_signals holds_neither done first_not heard_of first_of is_words call_of call3_of is_callable is_callable7 is_identity
 no_wait_that_stands_still r e p =
     let left : Place → ℕ = at_stand_by (λ w. w.wait) 0 in

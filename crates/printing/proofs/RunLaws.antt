@@ -16,7 +16,7 @@ use Rattle.signals.specs.declared.Case.{Case}
 use Rattle.signals.specs.declared.Case.TheVariants.{Letters, Figures}
 use Rattle.signals.specs.Meaning.{letters, figures}
 use Rattle.text.specs.Printing.{bytes_of, case_at, printed, ends_printed}
-use Rattle.text.specs.Shifts.{shift_to, other}
+use Rattle.signals.specs.Cases.{shift_to, other}
 use Rattle.text.proofs.WalkLaws.{all_next, all_end, ends_next, ends_end}
 use Rattle.text.proofs.PrintingLaws.{printed_walk}
 use Rattle.printing.specs.declared.Reached.{Reached}

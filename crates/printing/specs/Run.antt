@@ -3,7 +3,7 @@ use Rattle.std.specs.Prelude.{◌≡◌, ◌⊎◌, List, ◌++◌, ℕ, ◌≤�
 use Rattle.laws.specs.Room.{Wrote}
 use Rattle.signals.specs.declared.Case.{Case}
 use Rattle.text.specs.Printing.{printed, ends_printed}
-use Rattle.text.specs.Shifts.{shift_to, other}
+use Rattle.signals.specs.Cases.{shift_to, other}
 use Rattle.printing.specs.declared.Reached.{Reached}
 
 -- the words from `at` to where r stands are printed from the case c: `put`, and nothing else, is stored in the room from `to` to r's

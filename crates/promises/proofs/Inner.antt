@@ -1,25 +1,24 @@
 -- No second answer: the promises of the inner functions (docs/PROMISES.md), as their contracts cite them, leave one.
 -- Assumes nothing.
-use mathlib.Core.Path.{◌≡◌, refl, subst, sym, ◌∙◌}
+use mathlib.Core.Path.{◌≡◌, refl, ap, subst, sym, ◌∙◌}
 use mathlib.Core.Bool.{Bool}
-use mathlib.Core.List.{List, [], ◌∷◌, ◌++◌, append_cancel_left}
+use mathlib.Core.List.{List, [], ◌∷◌, append_cancel_left}
 use Prim.Native.Nat.{ℕ, zero, suc, ◌<◌}
 use lib.Dec.{eqb}
-use lib.ListN.{length}
+use lib.ListN.{length, take}
 use lib.Seq.{ext_get_or}
-use Rattle.std.specs.Prelude.{if◌then◌else◌}
+use Rattle.std.specs.Prelude.{if◌then◌else◌, Option, Some, None, Result, Ok, Err}
 use Rattle.laws.proofs.Unique.{unique, unique_by}
 use Rattle.numbers.specs.declared.Reader.{Reader}
-use Rattle.numbers.specs.declared.Event.{Event}
-use Rattle.numbers.specs.declared.Took.{Took}
 use Rattle.numbers.specs.declared.Line.{Line}
-use Rattle.numbers.specs.Steps.{fresh_reader, taking, end_brings}
-use Rattle.numbers.specs.Writing.{Puts, decimal, hexadecimal, PutsWord, fits_word}
+use Rattle.numbers.specs.Steps.{Event, fresh_reader, taking, end_brings}
+use Rattle.numbers.specs.Writing.{PutsOn, decimal, hexadecimal, word_at, column_after, fits_word}
 use Rattle.signals.specs.declared.Case.{Case}
 use Rattle.signals.specs.declared.Row.{Row}
 use Rattle.signals.specs.Meaning.{traffic_of, cs4}
+use Rattle.signals.specs.Cases.{other as other_case, shift_to}
 use Rattle.signals.specs.Rows.{row, Rows}
-use Rattle.signals.specs.Numbers.{first_not}
+use Rattle.signals.specs.Numbers.{Answer, answered, refused, first_not}
 use Rattle.identity.specs.declared.Seven.{Seven}
 use Rattle.identity.specs.Table3.{is_identity}
 use Rattle.identity.specs.Sums.{signals_of7, check_sum1, check_sum2, check_sum3, same_seven}
@@ -53,6 +52,8 @@ use Rattle.mode_a.specs.declared.Offer.{Offer}
 use Rattle.mode_a.specs.declared.Station.{Station}
 use Rattle.mode_a.specs.declared.Listening.{Listening}
 use Rattle.mode_a.specs.declared.Reply.{Reply}
+use Rattle.mode_a.specs.declared.Refusal.{Refusal}
+use Rattle.mode_a.proofs.Unique.{refusal_from}
 use Rattle.mode_a.specs.declared.Doing.{Doing}
 use Rattle.mode_a.specs.declared.Doing.TheVariants.{Bars, Ends, Meets}
 use Rattle.mode_a.specs.Calls.{signals_of, call_block1, call_block2}
@@ -61,24 +62,24 @@ use Rattle.mode_a.specs.Identification.{identity_block, told_in}
 use Rattle.mode_a.specs.Heard.{Cs, Cs3, Else, Cs4, Letter, may_hold, is_words, call_of, call3_of}
 use Rattle.mode_a.specs.Answerback.{passes, block_owed, owed_then, owed_exists}
 use Rattle.mode_a.specs.Rows.{requests, calls_on, calling, stand_by, all_heard, heard_then, calls_on3, calling3, identifying, same_block, hearing, is_last}
-use Rattle.mode_a.specs.Step.{moved_to, cancelled_to, sends, is_over, heard_at, owing, accepts, repeats, again, rested, begun, listens, knowing, meets, ends, turns, unidentified, sound, done}
+use Rattle.mode_a.specs.Step.{moved_to, cancelled_to, sends, is_over, heard_at, owing, accepts, repeats, again, rested, begun, listens, knowing, meets, ends, turns, unidentified, sound, said_refusal, TellsRefusal, done}
 use Rattle.table.specs.declared.Kind.{Kind}
 use Rattle.table.specs.declared.Action.{Action}
 use Rattle.table.specs.Kinds.{kind_of, column_of}
-use Rattle.table.specs.Actions.{action_of}
+use Rattle.table.specs.Actions.{action_of, row_no}
 use Rattle.carried.specs.Carried.{number_in, block_in, total_in, waiting_in, called_in, called3_in, identified_in, gathered_in}
 use Rattle.moves.specs.Moves.{asked, ends_again, ended}
 use Rattle.doings.specs.Doings.{doing_of}
 use Rattle.offers.specs.declared.Going.{Going}
 use Rattle.offers.specs.Goes.{next_of, takes_next}
 use Rattle.refusals.specs.Parts.{bad_offer, bad_call}
+use Rattle.refusals.specs.Judging.{said_judged, Judges}
 use Rattle.entries.specs.declared.Entry.{Entry}
-use Rattle.entries.specs.declared.Read.{Read}
+use Rattle.entries.specs.declared.ReadError.{ReadError}
 use Rattle.entries.specs.declared.Standing.{Standing}
-use Rattle.entries.specs.declared.Passed.{Passed}
-use Rattle.entries.specs.Entries.{other_role, same_role, Reads}
+use Rattle.entries.specs.Entries.{other_role, same_role, Read, read_to, Stays, ReadsOn}
 use Rattle.entries.specs.Passage.{Passage, begins, hearing as hearer_of, offer_to, offering, damage_to, tells, fault_of, signals_of as signals_by}
-use Rattle.entries.specs.Passing.{outcome_from, said_passed}
+use Rattle.entries.specs.Passing.{Passed, said_passed}
 use Rattle.entries.proofs.Unique.{passed_from, passed_back}
 use Rattle.typing.specs.declared.Typed.{Typed}
 use Rattle.typing.specs.Typing.{signals_in, Types}
@@ -103,6 +104,13 @@ is_traffic_unique w r r' p q = unique p q
 pub first_without_unique : (text : List ℕ) (r r' : ℕ) → r ≡ first_not has_signal text → r' ≡ first_not has_signal text → r ≡ r'
 first_without_unique text r r' p q = unique p q
 
+-- `Case::other`, `Case::shift`
+pub other_case_unique : (c r r' : Case) → r ≡ other_case c → r' ≡ other_case c → r ≡ r'
+other_case_unique c r r' p q = unique p q
+
+pub shift_unique : (c : Case) (r r' : ℕ) → r ≡ shift_to c → r' ≡ shift_to c → r ≡ r'
+shift_unique c r r' p q = unique p q
+
 -- `judging::first_bad`, `judging::needed`
 pub first_bad_unique : (ws : List ℕ) (r r' : ℕ) → r ≡ first_not may_print ws → r' ≡ first_not may_print ws → r ≡ r'
 first_bad_unique ws r r' p q = unique p q
@@ -122,7 +130,7 @@ put_back (suc g) = refl
 pub glyph_unique : (c : Case) (w : ℕ) (r r' : ℕ) → put_of r ≡ bytes_of c w → put_of r' ≡ bytes_of c w → r ≡ r'
 glyph_unique c w r r' p q = unique_by put_of byte_in put_back p q
 
--- `identity::may_identify`, `identity::outside`, and the functions of `Seven`
+-- `identity::may_identify`, one step of a search for the first signal outside table 3a, the functions of `Seven`, and `==` on it
 pub may_identify_unique : (w : ℕ) (r r' : Bool) → r ≡ is_identity w → r' ≡ is_identity w → r ≡ r'
 may_identify_unique w r r' p q = unique p q
 
@@ -172,9 +180,12 @@ block_2_unique i r r' p q = unique p q
 pub first_outside_unique : (i : Identity) (r r' : ℕ) → r ≡ first_not is_identity (signals_of i) → r' ≡ first_not is_identity (signals_of i) → r ≡ r'
 first_outside_unique i r r' p q = unique p q
 
--- `table::is_words`, `table::kind_of`, `table::column_of`, `table::action_at`
+-- `==` on `Words`, and `table::row_no`, `table::kind_of`, `table::column_of`, `table::action_at`
 pub is_words_unique : (b : Words) (x y z : ℕ) (r r' : Bool) → r ≡ is_words b (words x y z) → r' ≡ is_words b (words x y z) → r ≡ r'
 is_words_unique b x y z r r' p q = unique p q
+
+pub row_no_unique : (place : Place) (r r' : ℕ) → r ≡ row_no place → r' ≡ row_no place → r ≡ r'
+row_no_unique place r r' p q = unique p q
 
 pub kind_of_unique : (b : Words) (r r' : Kind) → r ≡ kind_of b → r' ≡ kind_of b → r ≡ r'
 kind_of_unique b r r' p q = unique p q
@@ -372,6 +383,28 @@ bad_offer_unique o r r' p q = unique p q
 pub bad_call_unique : (s : Station) (o : Offer) (r r' : ℕ) → r ≡ bad_call s.own o → r' ≡ bad_call s.own o → r ≡ r'
 bad_call_unique s o r r' p q = unique p q
 
+abbrev judged_from : Answer (Unit {0}) → Result (Unit {0}) Refusal
+judged_from (answered u) = Ok u
+judged_from (refused n v) = Err (refusal_from n v)
+
+judged_back : (r : Result (Unit {0}) Refusal) → judged_from (said_judged r) ≡ r
+judged_back (Ok u) = refl
+judged_back (Err Refusal.BadStation) = refl
+judged_back (Err Refusal.BadCode) = refl
+judged_back (Err (Refusal.BadWord i)) = refl
+judged_back (Err (Refusal.BadCall i)) = refl
+
+pub judged_unique : (s : Station) (o : Offer) (r r' : Result (Unit {0}) Refusal) → Judges s o r → Judges s o r' → r ≡ r'
+judged_unique s o r r' p q = unique_by said_judged judged_from judged_back p q
+
+-- `Refusal::told`
+abbrev numbers_in : Answer Reply → ℕ × ℕ
+numbers_in (answered r) = (0, 0)
+numbers_in (refused n v) = (n, v)
+
+pub told_unique : (e : Refusal) (t t' : ℕ × ℕ) → TellsRefusal e t → TellsRefusal e t' → t ≡ t'
+told_unique e t t' p q = ap numbers_in (unique (sym p) (sym q))
+
 -- `replies::done`
 pub done_unique : (s : Station) (b : Words) (o : Offer) (d : Doing) (r r' : Reply) → r ≡ done s b o d → r' ≡ done s b o d → r ≡ r'
 done_unique s b o d r r' p q = unique p q
@@ -380,48 +413,87 @@ done_unique s b o d r r' p q = unique p q
 pub new_unique : (r r' : Reader) → r ≡ fresh_reader → r' ≡ fresh_reader → r ≡ r'
 new_unique r r' p q = unique p q
 
-pub take_unique : (self : Reader) (byte : ℕ) (r r' : Took) → r ≡ taking self byte → r' ≡ taking self byte → r ≡ r'
-take_unique self byte r r' p q = unique p q
+pub take_unique : (self : Reader) (byte : ℕ) (r r' : Event) (after after' : Reader) → r ≡ (taking self byte).event → after ≡ (taking self byte).reader → r' ≡ (taking self byte).event → after' ≡ (taking self byte).reader → (r ≡ r') × (after ≡ after')
+take_unique self byte r r' after after' p q p' q' = (unique p p', unique q q')
 
-pub end_unique : (self : Reader) (r r' : Event) → r ≡ end_brings self → r' ≡ end_brings self → r ≡ r'
+pub end_unique : (self : Reader) (r r' : Option ℕ) → r ≡ end_brings self → r' ≡ end_brings self → r ≡ r'
 end_unique self r r' p q = unique p q
 
--- `numbers::put` and the others that store: the answer, and the lent room
-puts_unique : (room : List ℕ) (at : ℕ) (bytes : List ℕ) (r r' : ℕ) (after after' : List ℕ) → Puts room at bytes r after → Puts room at bytes r' after' → (r ≡ r') × (after ≡ after')
-puts_unique room at bytes r r' after after' p q = (unique p.ended q.ended, unique p.holds q.holds)
+-- `numbers::Line`: of what a line is afterwards, the place, the bytes of the room, and that it is the same room
+pub record SameLine (l m : Line) : Type 0 where
+  pub at : l.at ≡ m.at
+  pub bytes : l.room.now ≡ m.room.now
+  pub same_reference : l.room.ghost_name ≡ m.room.ghost_name
 
-pub put_unique : (room : List ℕ) (at byte : ℕ) (r r' : ℕ) (after after' : List ℕ) → Puts room at (byte ∷ []) r after → Puts room at (byte ∷ []) r' after' → (r ≡ r') × (after ≡ after')
-put_unique room at byte r r' after after' p q = puts_unique room at (byte ∷ []) r r' after after' p q
+pub line_new_unique : (l r r' : Line) → r.room.ghost_name ≡ l.room.ghost_name → r.room.now ≡ l.room.now → r.at ≡ 0 → r'.room.ghost_name ≡ l.room.ghost_name → r'.room.now ≡ l.room.now → r'.at ≡ 0 → SameLine r r'
+line_new_unique l r r' n b a n' b' a' = record { at = unique a a'; bytes = unique b b'; same_reference = unique n n' }
 
-pub put_all_unique : (room : List ℕ) (at : ℕ) (bytes : List ℕ) (r r' : ℕ) (after after' : List ℕ) → Puts room at bytes r after → Puts room at bytes r' after' → (r ≡ r') × (after ≡ after')
-put_all_unique room at bytes r r' after after' p q = puts_unique room at bytes r r' after after' p q
+puts_unique : (l : Line) (bytes : List ℕ) (r r' : Line) → PutsOn l bytes r → PutsOn l bytes r' → SameLine r r'
+puts_unique l bytes r r' p q =
+    record { at = unique p.puts.ended q.puts.ended; bytes = unique p.puts.holds q.puts.holds; same_reference = unique p.same_reference q.same_reference }
 
-pub put_number_unique : (room : List ℕ) (at number : ℕ) (r r' : ℕ) (after after' : List ℕ) → Puts room at (decimal number) r after → Puts room at (decimal number) r' after' → (r ≡ r') × (after ≡ after')
-put_number_unique room at number r r' after after' p q = puts_unique room at (decimal number) r r' after after' p q
+pub bytes_unique : (l : Line) (r r' : List ℕ) → r ≡ take l.at l.room.now → r' ≡ take l.at l.room.now → r ≡ r'
+bytes_unique l r r' p q = unique p q
 
-pub put_hex_unique : (room : List ℕ) (at byte : ℕ) (r r' : ℕ) (after after' : List ℕ) → Puts room at (hexadecimal byte) r after → Puts room at (hexadecimal byte) r' after' → (r ≡ r') × (after ≡ after')
-put_hex_unique room at byte r r' after after' p q = puts_unique room at (hexadecimal byte) r r' after after' p q
+pub put_unique : (l : Line) (byte : ℕ) (r r' : Line) → PutsOn l (byte ∷ []) r → PutsOn l (byte ∷ []) r' → SameLine r r'
+put_unique l byte r r' p q = puts_unique l (byte ∷ []) r r' p q
+
+pub put_all_unique : (l : Line) (bytes : List ℕ) (r r' : Line) → PutsOn l bytes r → PutsOn l bytes r' → SameLine r r'
+put_all_unique l bytes r r' p q = puts_unique l bytes r r' p q
+
+pub put_number_unique : (l : Line) (number : ℕ) (r r' : Line) → PutsOn l (decimal number) r → PutsOn l (decimal number) r' → SameLine r r'
+put_number_unique l number r r' p q = puts_unique l (decimal number) r r' p q
+
+pub put_hex_unique : (l : Line) (byte : ℕ) (r r' : Line) → PutsOn l (hexadecimal byte) r → PutsOn l (hexadecimal byte) r' → SameLine r r'
+put_hex_unique l byte r r' p q = puts_unique l (hexadecimal byte) r r' p q
 
 pub fits_word_unique : (size at : ℕ) (r r' : Bool) → r ≡ fits_word size at → r' ≡ fits_word size at → r ≡ r'
 fits_word_unique size at r r' p q = unique p q
 
-pub put_word_unique : (room : List ℕ) (at column word : ℕ) (r r' : Line) (after after' : List ℕ) → PutsWord room at column word r after → PutsWord room at column word r' after' → (r ≡ r') × (after ≡ after')
-put_word_unique room at column word r r' after after' p q =
-    (λ i. record { at = unique p.0.ended q.0.ended i; column = unique p.1 q.1 i }, unique p.0.holds q.0.holds)
+pub put_word_unique : (l : Line) (column word : ℕ) (r r' : ℕ) (after after' : Line) → PutsOn l (word_at column word) after → r ≡ column_after column → PutsOn l (word_at column word) after' → r' ≡ column_after column → (r ≡ r') × SameLine after after'
+put_word_unique l column word r r' after after' p q p' q' = (unique q q', puts_unique l (word_at column word) after after' p p')
 
--- `entries::other`, `entries::same`, `entries::entry_at`
+-- `entries::other`, `entries::same`, `Reader::next_entry`
 pub other_role_unique : (role r r' : Role) → r ≡ other_role role → r' ≡ other_role role → r ≡ r'
 other_role_unique role r r' p q = unique p q
 
 pub same_role_unique : (one role : Role) (r r' : Bool) → r ≡ same_role one role → r' ≡ same_role one role → r ≡ r'
 same_role_unique one role r r' p q = unique p q
 
-pub entry_at_unique : (bytes : List ℕ) (at : ℕ) (r r' : Read) → Reads bytes at r → Reads bytes at r' → r ≡ r'
-entry_at_unique bytes at r r' p q = unique p q
+-- what a reader answers, and the reader
+answer_in : Read → Result (Option Entry) ReadError
+answer_in (Ok (Some x)) = Ok (Some x.0)
+answer_in (Ok None) = Ok None
+answer_in (Err x) = Err x
+
+place_in : ℕ → Read → ℕ
+place_in at (Ok (Some x)) = x.1
+place_in at (Ok None) = at
+place_in at (Err x) = at
+
+answer_back : (r : Result (Option Entry) ReadError) (past : ℕ) → answer_in (read_to r past) ≡ r
+unfolding answer_in
+answer_back (Ok (Some e)) past = refl
+answer_back (Ok None) past = refl
+answer_back (Err x) past = refl
+
+place_back : (at : ℕ) (r : Result (Option Entry) ReadError) (past : ℕ) → Stays r at past → place_in at (read_to r past) ≡ past
+unfolding place_in
+place_back at (Ok (Some e)) past s = refl
+place_back at (Ok None) past s = sym s
+place_back at (Err x) past s = sym s
+
+pub next_entry_unique : (bytes : List ℕ) (at : ℕ) (r r' : Result (Option Entry) ReadError) (b b' : List ℕ) (past past' : ℕ) → ReadsOn bytes at r b past → ReadsOn bytes at r' b' past' → (r ≡ r') × (b ≡ b') × (past ≡ past')
+next_entry_unique bytes at r r' b b' past past' p q =
+    let same : read_to r past ≡ read_to r' past' = unique p.0 q.0 in (
+      sym (answer_back r past) ∙ ap answer_in same ∙ answer_back r' past',
+      unique p.2 q.2,
+      sym (place_back at r past p.1) ∙ ap (place_in at) same ∙ place_back at r' past' q.1,
+    )
 
 -- `typing::put`: the answer, and the lent room
-pub put_signals_unique : (ws : Words) (t : Typed) (write : Bool) (room : List ℕ) (r r' : Typed) (after after' : List ℕ) → Types (signals_in ws) t write room r after → Types (signals_in ws) t write room r' after' → (r ≡ r') × (after ≡ after')
-put_signals_unique ws t write room r r' after after' p q = (unique p.0 q.0, unique p.1 q.1)
+pub put_signals_unique : (ws : Words) (t : Typed) (room : List ℕ) (r r' : Typed) (after after' : List ℕ) → Types (signals_in ws) t room r after → Types (signals_in ws) t room r' after' → (r ≡ r') × (after ≡ after')
+put_signals_unique ws t room r r' after after' p q = (unique p.0 q.0, unique p.1 q.1)
 
 -- `telling::first`, `hearing`, `offer_to`, `offered`, `says`, `damaged`
 pub first_unique : (r r' : Standing) → r ≡ begins.standing → r' ≡ begins.standing → r ≡ r'
@@ -452,16 +524,17 @@ turned_unique s taken r r' p q =
 pub fresh_unique : (r r' : State) → r ≡ state_of begins → r' ≡ state_of begins → r ≡ r'
 fresh_unique r r' p q = unique p q
 
-abbrev fault_no : ℕ → Fault
-fault_no n = if eqb n 12 then Fault.BadBurst else if eqb n 13 then Fault.StillOffered else if eqb n 3 then Fault.BadWord else Fault.None
+abbrev fault_no : ℕ → Result (Unit {0}) Fault
+fault_no n =
+    if eqb n 12 then Err Fault.BadBurst else if eqb n 13 then Err Fault.StillOffered else if eqb n 3 then Err Fault.BadWord else Ok tt
 
-fault_back : (r : Fault) → fault_no (number_of r) ≡ r
-fault_back Fault.None = refl
-fault_back Fault.BadBurst = refl
-fault_back Fault.StillOffered = refl
-fault_back Fault.BadWord = refl
+fault_back : (r : Result (Unit {0}) Fault) → fault_no (number_of r) ≡ r
+fault_back (Ok u) = refl
+fault_back (Err Fault.BadBurst) = refl
+fault_back (Err Fault.StillOffered) = refl
+fault_back (Err Fault.BadWord) = refl
 
-pub fault_of_unique : (s : Standing) (e : Entry) (r r' : Fault) → number_of r ≡ fault_of s e → number_of r' ≡ fault_of s e → r ≡ r'
+pub fault_of_unique : (s : Standing) (e : Entry) (r r' : Result (Unit {0}) Fault) → number_of r ≡ fault_of s e → number_of r' ≡ fault_of s e → r ≡ r'
 fault_of_unique s e r r' p q = unique_by number_of fault_no fault_back p q
 
 -- `replay::goes`, of a state that a passage has: the state after it, and the signals that each station prints. Where the zeros stand among
@@ -474,6 +547,6 @@ goes_unique s e p stands r r' g g' =
     (unique (g p stands).state_is (g' p stands).state_is, λ by. append_cancel_left (signals_by p by) (prints_by r by) (prints_by r' by) (sym ((g p stands).prints by) ∙ (g' p stands).prints by))
 
 -- `walking::walked`: the answer, and the two lent rooms
-pub walked_unique : (write : Bool) (bytes : List ℕ) (from : ℕ) (m s : List ℕ) (r r' : Passed) (m' m'' s' s'' : List ℕ) → Walks write (outcome_from bytes from) m s r m' s' → Walks write (outcome_from bytes from) m s r' m'' s'' → (r ≡ r') × (m' ≡ m'') × (s' ≡ s'')
-walked_unique write bytes from m s r r' m' m'' s' s'' p q =
+pub walked_unique : (bytes : List ℕ) (from : ℕ) (m s : List ℕ) (r r' : Passed) (m' m'' s' s'' : List ℕ) → Walks bytes from m s r m' s' → Walks bytes from m s r' m'' s'' → (r ≡ r') × (m' ≡ m'') × (s' ≡ s'')
+walked_unique bytes from m s r r' m' m'' s' s'' p q =
     (unique_by said_passed passed_from passed_back p.0 q.0, unique p.1 q.1, unique p.2 q.2)

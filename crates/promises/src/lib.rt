@@ -20,13 +20,15 @@ ghost use Rattle.entries.specs.Passing.{Passes};
 ghost use Rattle.reasons.specs.Reasons.{Explains};
 ghost use Rattle.reasons.specs.Stars.{Stars};
 
-use entries::Passed;
+use entries::PassError;
 use identity::Seven;
-use mode_a::{Code, Coded, Identity, Offer, Station, Stepped, Stood, Words};
-use mode_b::{Received, Receiver, Slot};
-use reasons::{Starred, Why};
+use mode_a::{
+    BadCode, BadIdentity, Code, Identity, Offer, Refusal, Refused, Reply, Station, Words,
+};
+use mode_b::{BadReceiver, Heard, Receiver, SlotError};
+use reasons::{Reason, Star, StarError};
 use signals::Case;
-use text::{Encoded, Printed};
+use text::{EncodeError, PrintError, Written};
 
 // 01, The code.
 pub fn meaning(word: u8) -> u8
@@ -42,20 +44,20 @@ pub fn intact(word: u8) -> bool
 }
 
 // 01, Text; 02, T-01: `encode` takes small letters as the capitals.
-pub fn encode(text: &[u8], case: Case, room: &mut [u8]) -> Encoded
+pub fn encode(text: &[u8], case: Case, room: &mut [u8]) -> Result<Written, EncodeError>
     ensures { Encodes text.now case room.old result room.new }
 {
     encoding::encode(text, case, room)
 }
 
-pub fn print(words: &[u8], case: Case, room: &mut [u8]) -> Printed
+pub fn print(words: &[u8], case: Case, room: &mut [u8]) -> Result<Written, PrintError>
     ensures { Prints words.now case room.old result room.new }
 {
     printing::print(words, case, room)
 }
 
 // 01, The station; 02, T-02, T-05 and T-06: `step` hears and places calls, tells and learns identities, and answers who are you.
-pub fn step(s: Station, burst: Words, offer: Offer) -> Stepped
+pub fn step(s: Station, burst: Words, offer: Offer) -> Result<Reply, Refused>
     ensures { Steps s burst offer result }
 {
     station::step(s, burst, offer)
@@ -73,19 +75,19 @@ pub fn fresh_slave() -> Station
     Station::fresh_slave()
 }
 
-pub fn standing_by(identity: Identity) -> Stood
+pub fn standing_by(identity: Identity) -> Result<Station, BadIdentity>
     ensures { StandsBy identity result }
 {
     Station::standing_by(identity)
 }
 
-pub fn standing_by_both(four: Identity, seven: Seven) -> Stood
+pub fn standing_by_both(four: Identity, seven: Seven) -> Result<Station, BadIdentity>
     ensures { StandsByBoth four seven result }
 {
     Station::standing_by_both(four, seven)
 }
 
-pub fn with_code(s: Station, code: Code) -> Coded
+pub fn with_code(s: Station, code: Code) -> Result<Station, BadCode>
     ensures { Codes s code result }
 {
     answerback::with_code(s, code)
@@ -98,13 +100,13 @@ pub fn first_burst() -> Words
 }
 
 // 01, Mode B.
-pub fn slot(text: &[u8], number: usize) -> Slot
+pub fn slot(text: &[u8], number: usize) -> Result<u8, SlotError>
     ensures { Slots text.now number result }
 {
     sending::slot(text, number)
 }
 
-pub fn receive(receiver: Receiver, word: u8) -> Received
+pub fn receive(receiver: Receiver, word: u8) -> Result<Heard, BadReceiver>
     ensures { Receives receiver word result }
 {
     receiving::receive(receiver, word)
@@ -117,20 +119,24 @@ pub fn fresh_receiver() -> Receiver
 }
 
 // 02, T-07.
-pub fn passage(bytes: &[u8], master: &mut [u8], slave: &mut [u8]) -> Passed
+pub fn passage(
+    bytes: &[u8],
+    master: &mut [u8],
+    slave: &mut [u8],
+) -> Result<entries::Printed, PassError>
     ensures { Passes bytes.now master.old slave.old result master.new slave.new }
 {
     passing::passage(bytes, master, slave)
 }
 
 // 02, T-08.
-pub fn why(s: Station, burst: Words, offer: Offer) -> Why
+pub fn why(s: Station, burst: Words, offer: Offer) -> Result<Reason, Refusal>
     ensures { Explains s burst offer result }
 {
     help_desk::why(s, burst, offer)
 }
 
-pub fn star(receiver: Receiver, word: u8) -> Starred
+pub fn star(receiver: Receiver, word: u8) -> Result<Option<Star>, StarError>
     ensures { Stars receiver word result }
 {
     starring::star(receiver, word)

@@ -28,6 +28,7 @@ use mathlib.Core.Path.{◌≡◌, refl}
 use mathlib.Core.Bool.{Bool, true, false}
 use Prim.Native.Nat.{ℕ}
 use native.Mathlib.Omega.{arith}
+use Rattle.std.specs.Prelude.{Option, Some, None, Ok}
 use Rattle.signals.specs.declared.Case.TheVariants.{Letters, Figures}
 use Rattle.signals.specs.Units.{intact_of, ones_of}
 use Rattle.signals.specs.Meaning.{meaning_of, traffic_of, alpha, rq, cs1, cs3}
@@ -56,15 +57,13 @@ use Rattle.mode_a.specs.Step.{sound}
 use Rattle.mode_b.specs.declared.Hearing.TheVariants.{InPhase}
 use Rattle.mode_b.specs.declared.Receiver.{Receiver}
 use Rattle.reasons.specs.declared.Reason.{Reason}
-use Rattle.reasons.specs.declared.Why.{Why}
 use Rattle.reasons.specs.declared.Star.{Star}
-use Rattle.reasons.specs.declared.Starred.{Starred}
 use Rattle.reasons.specs.Reasons.{times_out, reason_of, explaining, Explains}
 use Rattle.reasons.specs.Stars.{star_of, starring, Stars}
 
 -- the reason given is r, and the promise refuses q
 abbrev Rather : Station → Words → Offer → Reason → Reason → Type 0
-Rather s b o r q = (reason_of s b o ≡ r) × ¬ (Explains s b o (Why.Because q))
+Rather s b o r q = (reason_of s b o ≡ r) × ¬ (Explains s b o (Ok q))
 
 -- what the examples compute with
 computed : Station → Words → Offer → Answer Reason
@@ -169,7 +168,7 @@ unfolding computed
 no_who_before_over = (refl, λ p. let z : ◌≡◌ {A = ℕ} 0 1 = cc in omega arith)
 
 -- a count over 31
-pub no_reason_for_a_refusal : (r : Reason) → ¬ (Explains (stands Slave Lost 32) silence Offer.Nothing (Why.Because r))
+pub no_reason_for_a_refusal : (r : Reason) → ¬ (Explains (stands Slave Lost 32) silence Offer.Nothing (Ok r))
 unfolding computed
 no_reason_for_a_refusal r p = let z : ◌≡◌ {A = ℕ} 0 1 = cc in omega arith
 
@@ -179,9 +178,9 @@ receiver first dx printing = record { hearing = InPhase (record { first = first;
 
 -- there is no reason, and the promise refuses a
 abbrev NoStar : Receiver → ℕ → Star → Type 0
-NoStar r w a = (starring r w ≡ answered Star.None) × ¬ (Stars r w (Starred.Done a))
+NoStar r w a = (starring r w ≡ answered None) × ¬ (Stars r w (Ok (Some a)))
 
-starred : Receiver → ℕ → Answer Star
+starred : Receiver → ℕ → Answer (Option Star)
 unfolding starring star_of intact_of ones_of
 starred = starring
 

@@ -5,7 +5,7 @@
 -- The reason is told from 01's rows (`row_of`) and from what is heard. 02's list has no reason for the places of T-02 and T-05, nor for D in
 -- figures (T-06): what is added for them is marked *, and is an addition of ours (docs/DECISIONS.md, Reasons).
 -- Assumes nothing.
-use Rattle.std.specs.Prelude.{◌≡◌, Bool, true, false, not, ◌&&◌, ◌||◌, List, [], ◌∷◌, ℕ, eqb, leb, ltb, length, get_or, if◌then◌else◌}
+use Rattle.std.specs.Prelude.{◌≡◌, Bool, true, false, not, ◌&&◌, ◌||◌, List, [], ◌∷◌, ℕ, eqb, leb, ltb, length, get_or, if◌then◌else◌, Result, Ok, Err}
 use Rattle.signals.specs.Units.{intact_of}
 use Rattle.signals.specs.Meaning.{rq}
 use Rattle.signals.specs.Numbers.{Answer, answered, refused, first_not}
@@ -35,9 +35,9 @@ use Rattle.mode_a.specs.Heard.{First, Cs, Cs3, Rq, Else, Further, Cs4, Cs5, Lett
 use Rattle.mode_a.specs.Over.{listened_all}
 use Rattle.mode_a.specs.Answerback.{passes}
 use Rattle.mode_a.specs.Rows.{turn_completed, both_heard, all_heard, is_last, row_of}
-use Rattle.mode_a.specs.Step.{bars, is_over, sound, offered, called_to}
+use Rattle.mode_a.specs.Step.{bars, is_over, sound, offered, called_to, said_refusal}
 use Rattle.reasons.specs.declared.Reason.{Reason}
-use Rattle.reasons.specs.declared.Why.{Why}
+use Rattle.mode_a.specs.declared.Refusal.{Refusal}
 
 -- what is heard, and what 01's row does at it
 abbrev pub heard_by : Station → Words → Heard
@@ -341,13 +341,10 @@ explaining s b o =
     else answered (reason_of s b o)
 
 -- each case of the answer, by 01's number and the value beside it
-abbrev pub said_why : Why → Answer Reason
-said_why (Why.Because r) = answered r
-said_why Why.BadStation = refused 4 0
-said_why Why.BadCode = refused 9 0
-said_why (Why.BadWord i) = refused 3 i
-said_why (Why.BadCall i) = refused 8 i
+abbrev pub said_why : Result Reason Refusal → Answer Reason
+said_why (Ok r) = answered r
+said_why (Err e) = said_refusal e
 
 -- The promise of `why`.
-abbrev pub Explains : Station → Words → Offer → Why → Type 0
+abbrev pub Explains : Station → Words → Offer → Result Reason Refusal → Type 0
 Explains s b o r = said_why r ≡ explaining s b o

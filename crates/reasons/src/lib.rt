@@ -47,35 +47,18 @@ pub enum Reason {
     Accepted,
 }
 
-// What `help_desk::why` answers.
-#[derive(Clone, Copy)]
-pub enum Why {
-    Because(Reason),
-    // The step of the same station, burst and offer is refused by this number, and so is the question. 4: the station is not sound
-    BadStation,
-    // 9: the code does not pass
-    BadCode,
-    // 3: a word of the text offer neither traffic nor β; the index of the first
-    BadWord(usize),
-    // 8: a signal of the identity called, or behind it of the own one that identification tells, outside table 3a; the index of the first
-    BadCall(usize),
-}
-
 // Why a step of a receiver of mode B prints an error mark: the DX and the RX word of the position, as they were heard.
-#[derive(Clone, Copy)]
+#[derive(Clone, Copy, PartialEq, Eq)]
 pub enum Star {
-    // it prints none
-    None,
     // "both copies bad"
     BothBad(u8, u8),
     // "both good and unlike"
     Unlike(u8, u8),
 }
 
-// What `starring::star` answers.
-#[derive(Clone, Copy)]
-pub enum Starred {
-    Done(Star),
+// Why `starring::star` has no answer. It hands no receiver back.
+#[derive(Clone, Copy, PartialEq, Eq)]
+pub enum StarError {
     // 4: a search run or a remaining wait over 3
     BadReceiver,
 }

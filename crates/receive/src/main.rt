@@ -2,55 +2,43 @@
 #![tactic(auto)]
 
 use filters::Stream;
-use mode_b::{Received, Receiver};
-use numbers::{Event, Reader};
+use mode_b::Receiver;
+use numbers::NumberError;
 use std::process::ExitCode;
 
-fn print(stream: Stream, output: &mut [u8], printed: u8) -> Stream {
-    if printed == 0 {
-        return stream;
+// Hears the words up to the end of the input, or up to what is no number.
+fn hear(stream: &mut Stream) -> Result<(), NumberError> {
+    let mut receiver = Receiver::fresh();
+    for _ in 0..u64::MAX {
+        let Some(word) = stream.number()? else {
+            return Ok(());
+        };
+        match receiving::receive(receiver, word) {
+            Ok(heard) => {
+                receiver = heard.receiver;
+                if let Some(printed) = heard.printed {
+                    stream.put_word(printed);
+                }
+            }
+            // not reached: a receiver that has answered is sound
+            Err(_) => return Ok(()),
+        }
     }
-    stream.put_word(output, printed)
+    Ok(())
 }
 
-// The line ended and written, and what is wrong told.
-fn stop(stream: Stream, output: &mut [u8], event: Event) -> ExitCode {
-    let written = stream.end_line(output).finish(output, b"receive");
-    filters::status(written && !filters::tell_number(stream.rt, b"receive", event))
+// What is wrong is told when the line is ended and written.
+fn run(rt: HostRuntime) -> Result<(), ExitCode> {
+    filters::no_words(rt, b"receive")?;
+    let mut input = [0u8; 4096];
+    let mut output = [0u8; 4096];
+    let mut stream = Stream::new(rt, &mut input, &mut output);
+    let heard = hear(&mut stream);
+    stream.end_line();
+    stream.finish(b"receive")?;
+    heard.map_err(|error| filters::tell_number(rt, b"receive", error))
 }
 
 fn main(rt: HostRuntime) -> ExitCode {
-    if filters::has_words(rt, b"receive") {
-        return filters::not_run();
-    }
-    let mut input = [0u8; 4096];
-    let mut output = [0u8; 4096];
-    let mut stream = Stream::new(rt);
-    let mut reader = Reader::new();
-    let mut receiver = Receiver::fresh();
-    for _ in 0..u64::MAX {
-        let got = stream.number(reader, &mut input, &output);
-        let event = got.event;
-        stream = got.stream;
-        reader = got.reader;
-        match event {
-            Event::Word(word) => {
-                let received = receiving::receive(receiver, word);
-                match received {
-                    Received::Done(heard) => {
-                        receiver = heard.receiver;
-                        stream = print(stream, &mut output, heard.printed);
-                    }
-                    // not reached: a receiver that has answered is sound
-                    Received::BadReceiver(_) => {
-                        return stop(stream, &mut output, Event::Nothing);
-                    }
-                }
-            }
-            Event::Nothing | Event::Over(_) | Event::NoDigit(_) => {
-                return stop(stream, &mut output, event);
-            }
-        }
-    }
-    ExitCode::SUCCESS
+    filters::status(run(rt))
 }

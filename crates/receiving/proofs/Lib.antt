@@ -1,3 +1,3 @@
 -- Laws that the receiver's proofs share.
---     MarkLaws   a settled position as one byte, and what it prints
-mod MarkLaws
+--     SettlingLaws   the copies of a phasing position are intact
+pub mod SettlingLaws

@@ -1,3 +1,3 @@
 -- What the receiver's own functions answer, beside the rules of `mode_b`.
---     Marks   a settled position as one byte
-pub mod Marks
+--     Settling   the signal to which a position is settled is intact
+pub mod Settling

@@ -1,17 +1,18 @@
 -- What an entry leads to: the state and the printed signals that the definition of a passage has. Assumes nothing.
 use mathlib.Core.Path.{◌≡◌, refl, ap, sym, subst, ◌∙◌}
 use mathlib.Core.Bool.{Bool, true, false, true≢false}
-use mathlib.Core.List.{List, [], ◌∷◌, ◌++◌, append-nil}
+use mathlib.Core.List.{List, [], ◌++◌, append-nil}
 use Prim.Native.Nat.{ℕ}
-use Rattle.std.specs.Prelude.{if◌then◌else◌}
+use Rattle.std.specs.Prelude.{if◌then◌else◌, Result, Ok, Err}
 use Rattle.signals.specs.Numbers.{Answer, answered, refused}
 use Rattle.mode_a.specs.declared.Role.{Role}
 use Rattle.mode_a.specs.declared.Role.TheVariants.{Master, Slave}
 use Rattle.mode_a.specs.declared.Offer.{Offer}
 use Rattle.mode_a.specs.declared.Reply.{Reply}
-use Rattle.mode_a.specs.declared.Stepped.{Stepped}
+use Rattle.mode_a.specs.declared.Refused.{Refused}
+use Rattle.mode_a.specs.declared.Refusal.{Refusal}
 use Rattle.mode_a.specs.Station.{silence}
-use Rattle.mode_a.specs.Step.{stepping, said_stepped, Steps}
+use Rattle.mode_a.specs.Step.{stepping, said_refusal, said_stepped, Steps}
 use Rattle.runs.specs.Runs.{is_answered}
 use Rattle.runs.specs.Circuit.{heard, printed_by, said, after}
 use Rattle.entries.specs.declared.Entry.{Entry}
@@ -46,7 +47,7 @@ prints_so Master Slave y x new = refl
 prints_so Slave Master y x new = refl
 prints_so Slave Slave y x new = sym (append-nil y)
 
-module _ (s : State) (d : ℕ) (r : Role) (r_is : r ≡ hearing s.standing) (y : Stepped) (steps : Steps s.hearer (heard (event_with d (offer_to s.standing r)) s.burst) (offer_to s.standing r) y) where
+module _ (s : State) (d : ℕ) (r : Role) (r_is : r ≡ hearing s.standing) (y : Result Reply Refused) (steps : Steps s.hearer (heard (event_with d (offer_to s.standing r)) s.burst) (offer_to s.standing r) y) where
   -- of any passage that has this state
   said_is : (p : Passage) → s ≡ state_of p → said (circuit_of p) (event_of p.standing d) ≡ said_stepped y
   said_is p i =
@@ -55,7 +56,7 @@ module _ (s : State) (d : ℕ) (r : Role) (r_is : r ≡ hearing s.standing) (y :
       ∙ ap (λ (x : Role). stepping s.hearer (heard (event_with d (offer_to s.standing x)) s.burst) (offer_to s.standing x)) r_is
       ∙ ap (λ (x : State). stepping x.hearer (heard (event_of x.standing d) x.burst) (offer_to x.standing (hearing x.standing))) i)
 
-  pub answers_so : (x : Reply) → y ≡ Stepped.Done x → Goes s (λ p. after_burst p (event_of p.standing d)) (gone_by s r x)
+  pub answers_so : (x : Reply) → y ≡ Ok x → Goes s (λ p. after_burst p (event_of p.standing d)) (gone_by s r x)
   unfolding after
   answers_so x j p i =
       let q : said (circuit_of p) (event_of p.standing d) ≡ answered x = said_is p i ∙ ap said_stepped j in
@@ -66,17 +67,16 @@ module _ (s : State) (d : ℕ) (r : Role) (r_is : r ≡ hearing s.standing) (y :
         printable = step_prints (circuit_of p).hearer (heard (event_of p.standing d) (circuit_of p).burst) (offer_to p.standing (hearing p.standing)) x q;
       }
 
-  -- any other answer is a refusal, and no step of the circuit
-  pub refuses_so : ((x : Reply) → y ≡ Stepped.Done x → ⊥) → Goes s (λ p. after_burst p (event_of p.standing d)) (record { state = s; by = r; printed = silence })
+  -- a refusal is no step of the circuit
+  pub refuses_so : (e : Refused) → y ≡ Err e → Goes s (λ p. after_burst p (event_of p.standing d)) (record { state = s; by = r; printed = silence })
   unfolding after
-  refuses_so h p i = go (said_stepped y) (said_is p i) (refusal y h)
+  refuses_so e j p i = go (said_stepped y) (said_is p i) (ap (λ (y : Result Reply Refused). is_answered (said_stepped y)) j ∙ refusal e.why)
     where
-      refusal : (y : Stepped) → ((x : Reply) → y ≡ Stepped.Done x → ⊥) → is_answered (said_stepped y) ≡ false
-      refusal (Stepped.Done x) h = absurd (h x refl)
-      refusal (Stepped.BadStation t) h = refl
-      refusal (Stepped.BadCode t) h = refl
-      refusal (Stepped.BadWord n t) h = refl
-      refusal (Stepped.BadCall n t) h = refl
+      refusal : (w : Refusal) → is_answered (said_refusal {A = Reply} w) ≡ false
+      refusal Refusal.BadStation = refl
+      refusal Refusal.BadCode = refl
+      refusal (Refusal.BadWord n) = refl
+      refusal (Refusal.BadCall n) = refl
 
       go : (a : Answer Reply) → said (circuit_of p) (event_of p.standing d) ≡ a → is_answered a ≡ false → GoesTo p (after_burst p (event_of p.standing d)) (record { state = s; by = r; printed = silence })
       go (answered x) q e = absurd (true≢false e)
@@ -97,10 +97,6 @@ module _ (s : State) (e : Entry) (t : Told) (t_is : t ≡ told_by e) (g : Gone) 
       is (Text r w) = refl
       is (Over r) = refl
       is (End r) = refl
-
-  pub burst_goes : (d : ℕ) → t ≡ Told.Burst d → Goes s (λ p. after_burst p (event_of p.standing d)) g → Goes s (λ p. tells p e) g
-  unfolding told_to
-  burst_goes d = goes_so (Told.Burst d)
 
   pub offer_goes : (r : Role) (o : Offer) → t ≡ Told.Offer r o → g ≡ offered_to s r o → Goes s (λ p. tells p e) g
   unfolding told_to

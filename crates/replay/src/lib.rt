@@ -9,7 +9,7 @@ ghost use Rattle.entries.specs.Passage.{begins, offer_to, event_with, event_of, 
 ghost use Rattle.replay.specs.Replay.{state_of, gone_by, offered_to, Goes};
 
 use entries::{Entry, Standing};
-use mode_a::{Offer, Reply, Role, Station, Stepped, Words};
+use mode_a::{Offer, Refused, Reply, Role, Station, Words};
 use telling::Told;
 
 // The two stations between two entries: the one that hears next, the one that has sent, and what it sent; and the offers that stand.
@@ -30,6 +30,7 @@ pub struct Gone {
 }
 
 // A fresh master and a fresh slave, whose first burst is on the way, and no offer.
+#[tactic(auto, unfolding(runs::specs::Circuit::after))]
 pub fn fresh() -> State
     ensures { result ≡ state_of begins }
 {
@@ -45,27 +46,24 @@ pub fn fresh() -> State
 fn offers(state: State, role: Role, offer: Offer) -> Gone
     ensures { result ≡ offered_to state role offer }
 {
-    let standing = state.standing;
-    let mut after = state;
-    after.standing = telling::offered(standing, role, offer);
     Gone {
-        state: after,
+        state: State {
+            standing: telling::offered(state.standing, role, offer),
+            ..state
+        },
         by: role,
         printed: mode_a::SILENCE,
     }
 }
 
 // The burst on the way, damaged so, is heard by this station, to which its standing offer is pressed.
-fn hears(state: State, by: Role, damage: u8) -> Stepped
+fn hears(state: State, by: Role, damage: u8) -> Result<Reply, Refused>
     ensures { Steps state.hearer (heard (event_with damage (offer_to state.standing by)) state.burst) (offer_to state.standing by) result }
 {
-    let hearer = state.hearer;
-    let burst = state.burst;
-    let standing = state.standing;
     station::step(
-        hearer,
-        telling::damaged(burst, damage),
-        telling::offer_to(standing, by),
+        state.hearer,
+        telling::damaged(state.burst, damage),
+        telling::offer_to(state.standing, by),
     )
 }
 
@@ -73,20 +71,15 @@ fn hears(state: State, by: Role, damage: u8) -> Stepped
 fn answered(state: State, by: Role, reply: Reply) -> Gone
     ensures { result ≡ gone_by state by reply }
 {
-    let hearer = state.sender;
-    let sender = reply.station;
-    let burst = reply.sent;
-    let standing = state.standing;
-    let printed = reply.printed;
     Gone {
         state: State {
-            hearer: hearer,
-            sender: sender,
-            burst: burst,
-            standing: telling::turned(standing, reply.taken),
+            hearer: state.sender,
+            sender: reply.station,
+            burst: reply.sent,
+            standing: telling::turned(state.standing, reply.taken),
         },
-        by: by,
-        printed: printed,
+        by,
+        printed: reply.printed,
     }
 }
 
@@ -94,12 +87,11 @@ fn answered(state: State, by: Role, reply: Reply) -> Gone
 fn burst(state: State, damage: u8) -> Gone
     ensures { Goes state (λ p. after_burst p (event_of p.standing damage)) result }
 {
-    let standing = state.standing;
-    let by = telling::hearing(standing);
+    let by = telling::hearing(state.standing);
     match hears(state, by, damage) {
-        Stepped::Done(reply) => answered(state, by, reply),
+        Ok(reply) => answered(state, by, reply),
         // not reached: two fresh stations stay sound, and an offer was judged when it was made
-        _ => Gone {
+        Err(_) => Gone {
             state: state,
             by: by,
             printed: mode_a::SILENCE,

@@ -8,10 +8,10 @@ use lib.Dec.{ltb}
 use lib.ListN.{length, get_or, replicate, length-append, length-replicate, get_or-replicate, get_or-append}
 use lib.Seq.{get_or-append-add}
 use borrow.Author.Tests.{lt-ltb, le-ltb, ltb-true, ltb-false}
-use Rattle.std.specs.Prelude.{if◌then◌else◌}
+use Rattle.std.specs.Prelude.{if◌then◌else◌, Ok, Err}
 use Rattle.signals.specs.Meaning.{traffic_of, alpha}
 use Rattle.signals.specs.Numbers.{first_not}
-use Rattle.mode_b.specs.declared.Slot.{Slot}
+use Rattle.mode_b.specs.declared.SlotError.{SlotError}
 use Rattle.mode_b.specs.Sender.{Position, phasing, idle, dx_of, rx_of, with_breaks, positions_of, slots_of, slotting, Slots}
 use Rattle.mode_b.proofs.SlotLaws.{sent_twice}
 use Rattle.sending.specs.declared.At.{At}
@@ -90,23 +90,23 @@ module _ (text : List ℕ) where
         two (suc (suc t)) g = absurd (omega arith)
 
   -- the promise at each answer
-  pub too_long : (m : ℕ) → 8192 < length text → Slots text m Slot.TooLong
+  pub too_long : (m : ℕ) → 8192 < length text → Slots text m (Err SlotError.TooLong)
   unfolding slotting
   too_long m a = rw (lt-ltb 8192 (length text) a)
 
   module _ (a : length text ≤ 8192) (m : ℕ) where
-    pub bad_word : (i : ℕ) → i ≡ first_not traffic_of text → i < length text → Slots text m (Slot.BadWord i)
+    pub bad_word : (i : ℕ) → i ≡ first_not traffic_of text → i < length text → Slots text m (Err (SlotError.BadWord i))
     unfolding slotting
     bad_word i e b =
         rw (e, le-ltb 8192 (length text) a, lt-ltb (first_not traffic_of text) (length text) (rw e at b))
 
     module _ (b : length text ≤ first_not traffic_of text) where
-      pub past_last : (n : ℕ) → n ≡ 2 * count_of (length text + 2) → n ≤ m → Slots text m (Slot.PastLast n)
+      pub past_last : (n : ℕ) → n ≡ 2 * count_of (length text + 2) → n ≤ m → Slots text m (Err (SlotError.PastLast n))
       unfolding slotting
       past_last n e c =
           rw (e, le-ltb 8192 (length text) a, le-ltb (first_not traffic_of text) (length text) b, slots_count, le-ltb m (2 * count_of (length text + 2)) (rw e at c))
 
-      pub word_told : m < 2 * count_of (length text + 2) → (w : ℕ) → w ≡ get_or (slots_of text) m 0 → Slots text m (Slot.Word w)
+      pub word_told : m < 2 * count_of (length text + 2) → (w : ℕ) → w ≡ get_or (slots_of text) m 0 → Slots text m (Ok w)
       unfolding slotting
       word_told c w e =
           rw (e, le-ltb 8192 (length text) a, le-ltb (first_not traffic_of text) (length text) b, slots_count, lt-ltb m (2 * count_of (length text + 2)) c)

@@ -1,13 +1,14 @@
 // The sender of mode B: the word of any slot (01, Mode B; 001, 4.2, 4.4 and 4.6), found without a list of slots.
 #![tactic(auto)]
 
-ghost use Rattle.std.specs.Prelude.{◌≡◌, true, ◌+◌, ◌≤◌, ◌<◌, length, get_or};
-ghost use Rattle.signals.specs.Meaning.{traffic_of};
+ghost use Rattle.std.specs.Prelude.{◌≡◌, Bool, true, ℕ, ◌+◌, ◌≤◌, ◌<◌, length, get_or};
+ghost use Rattle.signals.specs.Meaning.{alpha, rq};
 ghost use Rattle.signals.specs.Numbers.{first_not};
 ghost use Rattle.mode_b.specs.Sender.{dx_of, rx_of, Slots};
 ghost use Rattle.sending.specs.Places.{sent_text, count_of, at_of, by_at};
+ghost use Rattle.sending.specs.Tests.{DecidedBy};
 
-use mode_b::Slot;
+use mode_b::SlotError;
 
 // What stands at a position: a phasing pair, the traffic signal with an index (return and line feed are 0 and 1), or α.
 #[derive(Clone, Copy)]
@@ -17,41 +18,30 @@ pub enum At {
     Idle,
 }
 
-// True only where every word is traffic. It looks at all of them, one like the other, so that the compiler can take sixteen at a time.
-fn all_traffic(text: &[u8]) -> bool
-    ensures { result ≡ true → first_not traffic_of text.now ≡ length text.now }
+// Whether the test holds of every word. It looks at all of them, one like the other, so that the compiler can take sixteen at a time.
+fn all_pass<F: Fn(u8) -> bool>(words: &[u8], may: &F) -> bool
+    requires { F.IsAlwaysCallable may.now }
+    ensures { (test : ℕ → Bool) → DecidedBy test (F.post may.now) → result ≡ true → first_not test words.now ≡ length words.now }
 {
     let mut all = true;
-    let mut i = 0;
-    while i < text.len() {
-        all = all & signals::is_traffic(text[i]);
-        i += 1;
+    for &word in words {
+        all &= may(word);
     }
     all
 }
 
-// The first word that is not traffic, found one by one.
-fn searched(text: &[u8]) -> usize
-    ensures { result ≡ first_not traffic_of text.now }
+// The index of the first word of which the test does not hold; the length where it holds of all.
+fn first_failing<F: Fn(u8) -> bool>(words: &[u8], may: F) -> usize
+    requires { F.IsAlwaysCallable may }
+    ensures { (test : ℕ → Bool) → DecidedBy test (F.post may) → result ≡ first_not test words.now }
 {
-    let mut i = 0;
-    while i < text.len() {
-        if !signals::is_traffic(text[i]) {
-            return i;
-        }
-        i += 1;
+    if all_pass(words, &may) {
+        return words.len();
     }
-    i
-}
-
-// The index of the first word that is not traffic; the length where all are.
-fn first_bad(text: &[u8]) -> usize
-    ensures { result ≡ first_not traffic_of text.now }
-{
-    if all_traffic(text) {
-        return text.len();
-    }
-    searched(text)
+    words
+        .iter()
+        .position(|&word| !may(word))
+        .unwrap_or(words.len())
 }
 
 // How many positions a sending of n traffic signals has: 16 phasing, the traffic with four phasing after each 96 if more follows, 17 α.
@@ -76,14 +66,15 @@ fn stands_at(n: usize, t: usize) -> At
     if rest < 96 {
         let index = group * 96 + rest;
         if index < n {
-            return At::Traffic(index);
+            At::Traffic(index)
+        } else {
+            At::Idle
         }
-        return At::Idle;
+    } else if group * 96 + 96 < n {
+        At::Phasing
+    } else {
+        At::Idle
     }
-    if group * 96 + 96 < n {
-        return At::Phasing;
-    }
-    At::Idle
 }
 
 // The traffic signal with an index: return, line feed, the text.
@@ -91,36 +82,21 @@ fn traffic(text: &[u8], index: usize) -> u8
     requires { index < length text.now + 2 }
     ensures { result ≡ get_or (sent_text text.now) index 0 }
 {
-    if index == 0 {
-        return mode_b::CARRIAGE_RETURN;
-    }
-    if index == 1 {
-        return mode_b::LINE_FEED;
-    }
-    text[index - 2]
-}
-
-// The word of a position in DX.
-fn dx_at(text: &[u8], t: usize) -> u8
-    requires { length text.now ≤ 8192 }
-    ensures { result ≡ dx_of (by_at text.now (at_of (length text.now + 2) t)) }
-{
-    let here = stands_at(text.len() + 2, t);
-    match here {
-        At::Phasing => signals::RQ,
-        At::Traffic(index) => traffic(text, index),
-        At::Idle => signals::ALPHA,
+    match index {
+        0 => mode_b::CARRIAGE_RETURN,
+        1 => mode_b::LINE_FEED,
+        _ => text[index - 2],
     }
 }
 
-// The word of a position in RX.
-fn rx_at(text: &[u8], t: usize) -> u8
+// The word of a position, in DX where a phasing position is RQ, and in RX where it is α.
+fn word_at(text: &[u8], t: usize, phasing: u8) -> u8
     requires { length text.now ≤ 8192 }
-    ensures { result ≡ rx_of (by_at text.now (at_of (length text.now + 2) t)) }
+    ensures dx { phasing ≡ rq → result ≡ dx_of (by_at text.now (at_of (length text.now + 2) t)) }
+    ensures rx { phasing ≡ alpha → result ≡ rx_of (by_at text.now (at_of (length text.now + 2) t)) }
 {
-    let here = stands_at(text.len() + 2, t);
-    match here {
-        At::Phasing => signals::ALPHA,
+    match stands_at(text.len() + 2, t) {
+        At::Phasing => phasing,
         At::Traffic(index) => traffic(text, index),
         At::Idle => signals::ALPHA,
     }
@@ -128,26 +104,26 @@ fn rx_at(text: &[u8], t: usize) -> u8
 
 // The word of a slot of mode B (01, Mode B) for a text of traffic signals. Refuses 7, then 3, then 6 with the number of slots (01,
 // Numbers returned).
-pub fn slot(text: &[u8], number: usize) -> Slot
+pub fn slot(text: &[u8], number: usize) -> Result<u8, SlotError>
     ensures { Slots text.now number result }
 {
     if 8192 < text.len() {
-        return Slot::TooLong;
+        return Err(SlotError::TooLong);
     }
-    let bad = first_bad(text);
+    let bad = first_failing(text, signals::is_traffic);
     if bad < text.len() {
-        return Slot::BadWord(bad);
+        return Err(SlotError::BadWord(bad));
     }
     let slots = 2 * count_of(text.len() + 2);
     if slots <= number {
-        return Slot::PastLast(slots);
+        return Err(SlotError::PastLast(slots));
     }
     let t = number / 2;
     if number % 2 == 0 {
-        return Slot::Word(dx_at(text, t));
+        Ok(word_at(text, t, signals::RQ))
+    } else if t < 2 {
+        Ok(signals::ALPHA)
+    } else {
+        Ok(word_at(text, t - 2, signals::ALPHA))
     }
-    if t < 2 {
-        return Slot::Word(signals::ALPHA);
-    }
-    Slot::Word(rx_at(text, t - 2))
 }

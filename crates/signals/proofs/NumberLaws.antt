@@ -1,13 +1,18 @@
 -- Laws of the index of the first entry that fails a test. Assumes nothing.
-use mathlib.Core.Path.{◌≡◌, refl}
-use mathlib.Core.Bool.{Bool, true, false}
+use mathlib.Core.Path.{◌≡◌, refl, sym}
+use mathlib.Core.Bool.{Bool, true, false, not, cond}
 use mathlib.Core.List.{List, [], ◌∷◌, ◌++◌}
 use Prim.Native.Nat.{ℕ, suc, ◌+◌, ◌<◌, ◌≤◌}
 use native.Mathlib.Numerals.{add-one}
 use native.Mathlib.Omega.{arith}
+use lib.Dec.{ltb}
+use borrow.Author.Tests.{ltb-false}
 use lib.ListN.{length, get_or, drop}
 use lib.Seq.{drop-cons, drop-length}
 use Rattle.std.specs.Prelude.{if◌then◌else◌}
+use Rattle.std.specs.List.{position, position_or_len}
+use Rattle.std.specs.Option.{unwrap_or}
+use Rattle.std.proofs.lemmas.List.Recursion.{is_position_or_len}
 use Rattle.signals.specs.Numbers.{first_not}
 
 module _ (may : ℕ → Bool) where
@@ -52,3 +57,19 @@ module _ (may : ℕ → Bool) where
   all_append (x ∷ xs) t g h =
       let p = all_head x xs g in
       all_cons x (xs ++ t) p.0 (all_append xs t p.1 h)
+
+  -- it is the place that the library finds, of the first entry that fails
+  pub first_position : (s : List ℕ) → first_not may s ≡ position_or_len (λ x. not (may x)) s
+  unfolding first_not
+  first_position s = is_position_or_len (first_not may) (λ x. not (may x)) refl (λ x xs. go (may x) (first_not may xs)) s
+    where
+      go : (b : Bool) (n : ℕ) → (if b then suc n else 0) ≡ cond (not b) 0 (1 + n)
+      go true n = omega arith
+      go false n = refl
+
+  pub first_found : (s : List ℕ) → unwrap_or (position (λ x. not (may x)) s) (length s) ≡ first_not may s
+  first_found s = go (ltb (position_or_len (λ x. not (may x)) s) (length s)) refl
+    where
+      go : (b : Bool) → ltb (position_or_len (λ x. not (may x)) s) (length s) ≡ b → unwrap_or (position (λ x. not (may x)) s) (length s) ≡ first_not may s
+      go true e = rw e (sym (first_position s))
+      go false e = rw e (omega (arith, first_le s, first_position s, ltb-false _ _ e))

@@ -5,13 +5,35 @@
 ghost use Rattle.std.specs.Prelude.{◌≡◌};
 ghost use Rattle.signals.specs.Units.{intact_of};
 ghost use Rattle.signals.specs.Meaning.{meaning_of, traffic_of};
+ghost use Rattle.signals.specs.Cases.{other, shift_to};
 ghost use Rattle.signals.specs.Rows.{Rows};
 
 // The case of a direction, or of a text (01, Text).
-#[derive(Clone, Copy)]
+#[derive(Clone, Copy, PartialEq, Eq)]
 pub enum Case {
     Letters,
     Figures,
+}
+
+impl Case {
+    pub fn other(self) -> Case
+        ensures { result ≡ other self }
+    {
+        match self {
+            Case::Letters => Case::Figures,
+            Case::Figures => Case::Letters,
+        }
+    }
+
+    // The signal that shifts to the case.
+    pub fn shift(self) -> u8
+        ensures { result ≡ shift_to self }
+    {
+        match self {
+            Case::Letters => LETTERS,
+            Case::Figures => FIGURES,
+        }
+    }
 }
 
 // The shifts (01, The code, Nos 29 and 30).
@@ -82,6 +104,7 @@ const ROWS: [Row; 35] = [
 
 // The number of the signal that a word means, 1 to 35, or 0 where it is mutilated (01, The code; 02, T-04). Each of the 35 intact
 // words has a row, so the search for one always hits.
+// KEPT: of `rows.iter().position(..)` the compiler makes a table of jumps, 580 bytes in place of 255, and T-04 asks for less flash.
 pub fn meaning(word: u8) -> u8
     ensures { result ≡ meaning_of word }
 {
@@ -97,6 +120,7 @@ pub fn meaning(word: u8) -> u8
 }
 
 // Whether a heard word is intact: below 128, and with exactly four ones (01, The code; 001, 1.1).
+#[tactic(auto, using(crate::proofs::CodeLaws::ones_intact))]
 pub fn intact(word: u8) -> bool
     ensures { result ≡ intact_of word }
 {
@@ -104,6 +128,7 @@ pub fn intact(word: u8) -> bool
 }
 
 // Whether a word is traffic: an intact word that is none of the three service signals.
+#[tactic(auto, using(crate::proofs::CodeLaws::traffic_is))]
 pub fn is_traffic(word: u8) -> bool
     ensures { result ≡ traffic_of word }
 {
@@ -111,6 +136,7 @@ pub fn is_traffic(word: u8) -> bool
 }
 
 // The table of rows. A constant is built anew, on the stack, wherever it is used.
+#[tactic(auto, unfolding(crate::specs::Rows::row_of))]
 pub fn rows() -> [Row; 35]
     ensures { Rows result }
 {

@@ -4,90 +4,69 @@
 #![tactic(auto)]
 
 ghost use Rattle.std.specs.Prelude.{◌≡◌};
-ghost use Rattle.mode_a.specs.Step.{stands_at, moved_to, cancelled_to, heard_at, left_at, wait_at, rested, begun, knowing, owing, sends, repeats, again};
+ghost use Rattle.mode_a.specs.Step.{moved_to, cancelled_to, heard_at, left_at, wait_at, rested, begun, knowing, owing, sends, repeats, again};
 
 use mode_a::{
     Listening, Mark, Owed, Peer, Place, Reply, Role, Station, Succession, Waiting, Words,
 };
 use signals::Case;
 
-// The station at a place, with a count, a case and a + of its own; who it is and who is at the other end stay.
-fn stands_at(s: Station, place: Place, count: u8, case: Case, plus: bool) -> Station
-    ensures { result ≡ stands_at s place count case plus }
-{
-    let role = s.role;
-    let own = s.own;
-    let other = s.other;
-    let owed = s.owed;
-    Station {
-        role: role,
-        place: place,
-        count: count,
-        case: case,
-        plus: plus,
-        own: own,
-        other: other,
-        owed: owed,
-    }
-}
-
 // The station at another place, with count 0.
 pub fn moved_to(s: Station, place: Place) -> Station
     ensures { result ≡ moved_to s place }
 {
-    let case = s.case;
-    stands_at(s, place, 0, case, s.plus)
+    Station {
+        place,
+        count: 0,
+        ..s
+    }
 }
 
 // The same, with no + heard any more.
 pub fn cancelled_to(s: Station, place: Place) -> Station
     ensures { result ≡ cancelled_to s place }
 {
-    let case = s.case;
-    stands_at(s, place, 0, case, false)
+    Station {
+        place,
+        count: 0,
+        plus: false,
+        ..s
+    }
 }
 
 // The same, with what is kept of an accepted block.
 pub fn heard_at(s: Station, place: Place, l: Listening) -> Station
     ensures { result ≡ heard_at s place l }
 {
-    let case = l.case;
-    stands_at(s, place, 0, case, l.plus)
-}
-
-// The station at a place, with count 0, a case and a + of its own; this is owed of an answer-back.
-fn owes_at(s: Station, place: Place, case: Case, plus: bool, owed: Owed) -> Station
-    ensures { result ≡ owing (stands_at s place 0 case plus) owed }
-{
-    let role = s.role;
-    let own = s.own;
-    let other = s.other;
     Station {
-        role: role,
-        place: place,
+        place,
         count: 0,
-        case: case,
-        plus: plus,
-        own: own,
-        other: other,
-        owed: owed,
+        case: l.case,
+        plus: l.plus,
+        ..s
     }
 }
 
-// The station at another place, with count 0; this is owed.
+// The station at another place, with count 0; this is owed of an answer-back.
 pub fn owing_at(s: Station, place: Place, owed: Owed) -> Station
     ensures { result ≡ moved_to (owing s owed) place }
 {
-    let case = s.case;
-    owes_at(s, place, case, s.plus, owed)
+    Station {
+        place,
+        count: 0,
+        owed,
+        ..s
+    }
 }
 
 // The same, with what is kept of an accepted block.
 pub fn asked_at(s: Station, place: Place, l: Listening, owed: Owed) -> Station
     ensures { result ≡ owing (heard_at s place l) owed }
 {
-    let case = l.case;
-    owes_at(s, place, case, l.plus, owed)
+    Station {
+        owed,
+        ..heard_at(s, place, l)
+    }
 }
 
 // Who is at the other end of a station that goes to Stand-by: nobody, but an identity that is barred stays so.
@@ -95,10 +74,8 @@ fn left_at(other: Peer) -> Peer
     ensures { result ≡ left_at other }
 {
     match other {
-        Peer::Nobody => Peer::Nobody,
-        Peer::Four(_) => Peer::Nobody,
-        Peer::Known(_) => Peer::Nobody,
         Peer::Barred(_) => other,
+        _ => Peer::Nobody,
     }
 }
 
@@ -107,10 +84,8 @@ fn wait_at(other: Peer, wait: u8) -> u8
     ensures { result ≡ wait_at other wait }
 {
     match other {
-        Peer::Nobody => wait,
-        Peer::Four(_) => wait,
-        Peer::Known(_) => wait,
         Peer::Barred(_) => Station::CALLS,
+        _ => wait,
     }
 }
 
@@ -118,23 +93,16 @@ fn wait_at(other: Peer, wait: u8) -> u8
 pub fn rested(s: Station, wait: u8) -> Station
     ensures { result ≡ rested s wait }
 {
-    let role = s.role;
-    let case = s.case;
-    let own = s.own;
-    let other = s.other;
     Station {
-        role: role,
         place: Place::StandBy(Waiting {
-            wait: wait_at(other, wait),
+            wait: wait_at(s.other, wait),
             heard: Mark::None,
             heard3: Succession::None,
         }),
         count: 0,
-        case: case,
-        plus: s.plus,
-        own: own,
-        other: left_at(other),
+        other: left_at(s.other),
         owed: Owed::Nothing,
+        ..s
     }
 }
 
@@ -142,14 +110,13 @@ pub fn rested(s: Station, wait: u8) -> Station
 pub fn begun(s: Station, role: Role, place: Place) -> Station
     ensures { result ≡ begun s role place }
 {
-    let own = s.own;
     Station {
-        role: role,
-        place: place,
+        role,
+        place,
         count: 0,
         case: Case::Letters,
         plus: false,
-        own: own,
+        own: s.own,
         other: Peer::Nobody,
         owed: Owed::Nothing,
     }
@@ -159,21 +126,7 @@ pub fn begun(s: Station, role: Role, place: Place) -> Station
 pub fn knowing(s: Station, other: Peer) -> Station
     ensures { result ≡ knowing s other }
 {
-    let role = s.role;
-    let place = s.place;
-    let case = s.case;
-    let own = s.own;
-    let owed = s.owed;
-    Station {
-        role: role,
-        place: place,
-        count: s.count,
-        case: case,
-        plus: s.plus,
-        own: own,
-        other: other,
-        owed: owed,
-    }
+    Station { other, ..s }
 }
 
 // An answer that prints nothing and takes no offer.
@@ -181,7 +134,7 @@ pub fn sends(station: Station, words: Words) -> Reply
     ensures { result ≡ sends station words }
 {
     Reply {
-        station: station,
+        station,
         sent: words,
         printed: mode_a::SILENCE,
         taken: false,
@@ -192,13 +145,16 @@ pub fn sends(station: Station, words: Words) -> Reply
 pub fn repeats(s: Station, words: Words) -> Reply
     ensures { result ≡ repeats s words }
 {
-    let count = s.count;
-    if Station::LIMIT - 1 <= count {
+    if Station::LIMIT - 1 <= s.count {
         return sends(moved_to(s, Place::Lost), mode_a::SILENCE);
     }
-    let place = s.place;
-    let case = s.case;
-    sends(stands_at(s, place, count + 1, case, s.plus), words)
+    sends(
+        Station {
+            count: s.count + 1,
+            ..s
+        },
+        words,
+    )
 }
 
 // A repetition in identification, at the same place, standing so: the 32nd leads to Stand-by.
@@ -208,6 +164,12 @@ pub fn again(s: Station, place: Place, words: Words) -> Reply
     if Station::LIMIT - 1 <= s.count {
         return sends(rested(s, 0), mode_a::SILENCE);
     }
-    let case = s.case;
-    sends(stands_at(s, place, s.count + 1, case, s.plus), words)
+    sends(
+        Station {
+            place,
+            count: s.count + 1,
+            ..s
+        },
+        words,
+    )
 }

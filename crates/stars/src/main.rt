@@ -2,81 +2,58 @@
 #![tactic(auto)]
 
 use filters::Stream;
-use mode_b::{Received, Receiver};
-use numbers::{Event, Reader};
-use reasons::{Star, Starred};
+use mode_b::Receiver;
+use numbers::{Line, NumberError};
+use reasons::{Star, StarError};
 use std::process::ExitCode;
 
 // The line of an error mark that is printed at a slot.
-fn put_mark(stream: Stream, output: &mut [u8], slot: u64, star: Star) -> Stream {
+fn put_mark(stream: &mut Stream, slot: u64, star: Star) {
     // no line comes to be full
-    let mut line = [0u8; 48];
-    let mut at = filters::put_decimal(&mut line, 0, slot);
-    at = numbers::put(&mut line, at, 32);
-    at = written::put_star(&mut line, at, star);
-    at = numbers::put(&mut line, at, 10);
-    stream.put_line(output, &line, at)
+    let mut room = [0u8; 48];
+    let mut line = Line::new(&mut room);
+    filters::put_decimal(&mut line, slot);
+    line.put(32);
+    written::put_star(&mut line, Some(star));
+    stream.put_line(line);
 }
 
-fn mark(stream: Stream, output: &mut [u8], slot: u64, starred: Starred) -> Stream {
+fn mark(stream: &mut Stream, slot: u64, starred: Result<Option<Star>, StarError>) {
     match starred {
-        Starred::Done(star) => match star {
-            Star::None => stream,
-            Star::BothBad(_, _) | Star::Unlike(_, _) => put_mark(stream, output, slot, star),
-        },
-        // not reached, as below
-        Starred::BadReceiver => stream,
+        Ok(Some(star)) => put_mark(stream, slot, star),
+        // a refusal is not reached, as below
+        Ok(None) | Err(_) => {}
     }
 }
 
-// The next slot, up to one that no input reaches.
-fn further(slot: u64) -> u64 {
-    if slot == u64::MAX {
-        return slot;
+// Hears the words up to the end of the input, or up to what is no number.
+fn hear(stream: &mut Stream) -> Result<(), NumberError> {
+    let mut receiver = Receiver::fresh();
+    for slot in 0..u64::MAX {
+        let Some(word) = stream.number()? else {
+            return Ok(());
+        };
+        mark(stream, slot, starring::star(receiver, word));
+        match receiving::receive(receiver, word) {
+            Ok(heard) => receiver = heard.receiver,
+            // not reached: a receiver that has answered is sound
+            Err(_) => return Ok(()),
+        }
     }
-    slot + 1
+    Ok(())
 }
 
-// The lines written, and what is wrong told.
-fn stop(stream: Stream, output: &[u8], event: Event) -> ExitCode {
-    let written = stream.finish(output, b"stars");
-    filters::status(written && !filters::tell_number(stream.rt, b"stars", event))
+// What is wrong is told when the lines are written.
+fn run(rt: HostRuntime) -> Result<(), ExitCode> {
+    filters::no_words(rt, b"stars")?;
+    let mut input = [0u8; 4096];
+    let mut output = [0u8; 4096];
+    let mut stream = Stream::new(rt, &mut input, &mut output);
+    let heard = hear(&mut stream);
+    stream.finish(b"stars")?;
+    heard.map_err(|error| filters::tell_number(rt, b"stars", error))
 }
 
 fn main(rt: HostRuntime) -> ExitCode {
-    if filters::has_words(rt, b"stars") {
-        return filters::not_run();
-    }
-    let mut input = [0u8; 4096];
-    let mut output = [0u8; 4096];
-    let mut stream = Stream::new(rt);
-    let mut reader = Reader::new();
-    let mut receiver = Receiver::fresh();
-    let mut slot: u64 = 0;
-    for _ in 0..u64::MAX {
-        let got = stream.number(reader, &mut input, &output);
-        let event = got.event;
-        stream = got.stream;
-        reader = got.reader;
-        match event {
-            Event::Word(word) => {
-                stream = mark(stream, &mut output, slot, starring::star(receiver, word));
-                let received = receiving::receive(receiver, word);
-                match received {
-                    Received::Done(heard) => {
-                        receiver = heard.receiver;
-                        slot = further(slot);
-                    }
-                    // not reached: a receiver that has answered is sound
-                    Received::BadReceiver(_) => {
-                        return stop(stream, &output, Event::Nothing);
-                    }
-                }
-            }
-            Event::Nothing | Event::Over(_) | Event::NoDigit(_) => {
-                return stop(stream, &output, event);
-            }
-        }
-    }
-    ExitCode::SUCCESS
+    filters::status(run(rt))
 }

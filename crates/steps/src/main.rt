@@ -4,59 +4,78 @@
 use filters::Stream;
 use identity::Seven;
 use mode_a::{
-    Identity, Mark, Number, Owed, Peer, Place, Reply, Role, Stage, Station, Stepped, Succession,
+    Identity, Mark, Number, Owed, Peer, Place, Refused, Reply, Role, Stage, Station, Succession,
     Words,
 };
+use numbers::Line;
 use std::process::ExitCode;
 
 // What a line shows of a place after its name, and of a call at its end: 0 for a field that the place does not carry.
 #[derive(Clone, Copy)]
-pub struct Fields {
-    pub number: u8,
-    pub held: Words,
-    pub total: u8,
+struct Fields {
+    number: u8,
+    held: Words,
+    total: u8,
 }
 
+const BARE: Fields = Fields {
+    number: 0,
+    held: mode_a::SILENCE,
+    total: 0,
+};
+
 #[derive(Clone, Copy)]
-pub struct CallFields {
-    pub cycles: u8,
-    pub last: u8,
-    pub to: Identity,
+struct CallFields {
+    cycles: u8,
+    last: u8,
+    to: Identity,
 }
+
+const NO_CALL: CallFields = CallFields {
+    cycles: 0,
+    last: 0,
+    to: Identity(0, 0, 0, 0),
+};
 
 // And of identification.
 #[derive(Clone, Copy)]
-pub struct TellFields {
-    pub heard3: u8,
-    pub stage: u8,
-    pub wrong: u8,
-    pub last: u8,
-    pub signals: Seven,
+struct TellFields {
+    heard3: u8,
+    stage: u8,
+    wrong: u8,
+    last: u8,
+    signals: Seven,
 }
 
-const NO_IDENTITY: Identity = Identity(0, 0, 0, 0);
+const NOT_TOLD: TellFields = TellFields {
+    heard3: 0,
+    stage: 0,
+    wrong: 0,
+    last: 0,
+    signals: Seven(0, 0, 0, 0, 0, 0, 0),
+};
 
-const NO_SEVEN: Seven = Seven(0, 0, 0, 0, 0, 0, 0);
-
-fn put_words(line: &mut [u8], at: usize, words: Words) -> usize {
-    let one = fields::put_number(line, at, words.0);
-    let two = fields::put_number(line, one, words.1);
-    fields::put_number(line, two, words.2)
+fn put_words(line: &mut Line, words: Words) {
+    fields::put_number(line, words.0);
+    fields::put_number(line, words.1);
+    fields::put_number(line, words.2);
 }
 
-fn put_identity(line: &mut [u8], at: usize, identity: Identity) -> usize {
-    let one = fields::put_number(line, at, identity.0);
-    let two = fields::put_number(line, one, identity.1);
-    let three = fields::put_number(line, two, identity.2);
-    fields::put_number(line, three, identity.3)
+fn put_identity(line: &mut Line, identity: Identity) {
+    fields::put_number(line, identity.0);
+    fields::put_number(line, identity.1);
+    fields::put_number(line, identity.2);
+    fields::put_number(line, identity.3);
 }
 
-fn put_seven(line: &mut [u8], at: usize, seven: Seven) -> usize {
-    let one = put_words(line, at, Words(seven.0, seven.1, seven.2));
-    let two = put_words(line, one, Words(seven.3, seven.4, seven.5));
-    fields::put_number(line, two, seven.6)
+fn put_seven(line: &mut Line, seven: Seven) {
+    put_words(line, Words(seven.0, seven.1, seven.2));
+    put_words(line, Words(seven.3, seven.4, seven.5));
+    fields::put_number(line, seven.6);
 }
 
+// KEPT: these numbers are the line's (docs/FORMATS.md), and no order of the types: a `From` would have to stand in `mode_a`, which writes
+// no lines.
 fn number_in(number: Number) -> u8 {
     match number {
         Number::One => 1,
@@ -91,174 +110,109 @@ fn stage_in(stage: Stage) -> u8 {
     }
 }
 
-fn numbered(number: Number) -> Fields {
-    Fields {
-        number: number_in(number),
-        held: mode_a::SILENCE,
-        total: 0,
-    }
-}
-
-fn bare() -> Fields {
-    Fields {
-        number: 0,
-        held: mode_a::SILENCE,
-        total: 0,
-    }
-}
-
 fn fields_of(place: Place) -> Fields {
     match place {
-        Place::Sending(held) => {
-            let number = held.number;
-            let block = held.block;
-            Fields {
-                number: number_in(number),
-                held: block,
-                total: 0,
-            }
-        }
-        Place::Turning(number) => numbered(number),
-        Place::Opening => bare(),
-        Place::Ending(ended) => {
-            let number = ended.number;
-            Fields {
-                number: number_in(number),
-                held: mode_a::SILENCE,
-                total: ended.total,
-            }
-        }
-        Place::Receiving(number) => numbered(number),
-        Place::Asking => bare(),
-        Place::StandBy(_) => bare(),
-        Place::Lost => bare(),
-        Place::Calling(_) => bare(),
-        Place::Calling3(_) => bare(),
-        Place::Identifying(_) => bare(),
-        Place::Answering(_) => bare(),
-    }
-}
-
-fn no_call() -> CallFields {
-    CallFields {
-        cycles: 0,
-        last: 0,
-        to: NO_IDENTITY,
+        Place::Sending(held) => Fields {
+            number: number_in(held.number),
+            held: held.block,
+            ..BARE
+        },
+        Place::Ending(ended) => Fields {
+            number: number_in(ended.number),
+            total: ended.total,
+            ..BARE
+        },
+        Place::Turning(number) | Place::Receiving(number) => Fields {
+            number: number_in(number),
+            ..BARE
+        },
+        Place::Opening
+        | Place::Asking
+        | Place::StandBy(_)
+        | Place::Lost
+        | Place::Calling(_)
+        | Place::Calling3(_)
+        | Place::Identifying(_)
+        | Place::Answering(_) => BARE,
     }
 }
 
 fn call_fields_of(place: Place) -> CallFields {
     match place {
-        Place::Sending(_) => no_call(),
-        Place::Turning(_) => no_call(),
-        Place::Opening => no_call(),
-        Place::Ending(_) => no_call(),
-        Place::Receiving(_) => no_call(),
-        Place::Asking => no_call(),
-        Place::StandBy(waiting) => {
-            let heard = waiting.heard;
-            CallFields {
-                cycles: waiting.wait,
-                last: mark_in(heard),
-                to: NO_IDENTITY,
-            }
-        }
-        Place::Lost => no_call(),
-        Place::Calling(called) => {
-            let last = called.last;
-            let to = called.to;
-            CallFields {
-                cycles: called.sent,
-                last: mark_in(last),
-                to,
-            }
-        }
+        Place::StandBy(waiting) => CallFields {
+            cycles: waiting.wait,
+            last: mark_in(waiting.heard),
+            ..NO_CALL
+        },
+        Place::Calling(called) => CallFields {
+            cycles: called.sent,
+            last: mark_in(called.last),
+            to: called.to,
+        },
         Place::Calling3(called) => CallFields {
             cycles: called.sent,
-            last: 0,
-            to: NO_IDENTITY,
+            ..NO_CALL
         },
-        Place::Identifying(_) => no_call(),
-        Place::Answering(_) => no_call(),
-    }
-}
-
-fn not_told() -> TellFields {
-    TellFields {
-        heard3: 0,
-        stage: 0,
-        wrong: 0,
-        last: 0,
-        signals: NO_SEVEN,
+        Place::Sending(_)
+        | Place::Turning(_)
+        | Place::Opening
+        | Place::Ending(_)
+        | Place::Receiving(_)
+        | Place::Asking
+        | Place::Lost
+        | Place::Identifying(_)
+        | Place::Answering(_) => NO_CALL,
     }
 }
 
 fn tell_fields_of(place: Place) -> TellFields {
     match place {
-        Place::StandBy(waiting) => {
-            let heard3 = waiting.heard3;
-            TellFields {
-                heard3: succession_in(heard3),
-                stage: 0,
-                wrong: 0,
-                last: 0,
-                signals: NO_SEVEN,
-            }
-        }
-        Place::Calling3(called) => {
-            let to = called.to;
-            TellFields {
-                heard3: 0,
-                stage: 0,
-                wrong: 0,
-                last: 0,
-                signals: to,
-            }
-        }
-        Place::Identifying(identified) => {
-            let to = identified.to;
-            let stage = identified.stage;
-            TellFields {
-                heard3: 0,
-                stage: stage_in(stage),
-                wrong: identified.wrong,
-                last: identified.last,
-                signals: to,
-            }
-        }
-        Place::Answering(gathered) => {
-            let got = gathered.got;
-            let stage = gathered.stage;
-            TellFields {
-                heard3: 0,
-                stage: stage_in(stage),
-                wrong: 0,
-                last: 0,
-                signals: got,
-            }
-        }
-        _ => not_told(),
+        Place::StandBy(waiting) => TellFields {
+            heard3: succession_in(waiting.heard3),
+            ..NOT_TOLD
+        },
+        Place::Calling3(called) => TellFields {
+            signals: called.to,
+            ..NOT_TOLD
+        },
+        Place::Identifying(identified) => TellFields {
+            stage: stage_in(identified.stage),
+            wrong: identified.wrong,
+            last: identified.last,
+            signals: identified.to,
+            ..NOT_TOLD
+        },
+        Place::Answering(gathered) => TellFields {
+            stage: stage_in(gathered.stage),
+            signals: gathered.got,
+            ..NOT_TOLD
+        },
+        Place::Sending(_)
+        | Place::Turning(_)
+        | Place::Opening
+        | Place::Ending(_)
+        | Place::Receiving(_)
+        | Place::Asking
+        | Place::Lost
+        | Place::Calling(_) => NOT_TOLD,
     }
 }
 
-fn put_station(line: &mut [u8], s: Station) -> usize {
-    let place = s.place;
-    let case = s.case;
-    let shown = fields_of(place);
-    let held = shown.held;
-    let mut at = fields::put_place(line, 0, place);
-    at = fields::put_number(line, at, shown.number);
-    at = put_words(line, at, held);
-    at = fields::put_number(line, at, shown.total);
-    at = fields::put_number(line, at, s.count);
-    at = fields::put_case(line, at, case);
-    fields::put_flag(line, at, s.plus)
+fn put_station(line: &mut Line, s: Station) {
+    let shown = fields_of(s.place);
+    fields::put_place(line, s.place);
+    fields::put_number(line, shown.number);
+    put_words(line, shown.held);
+    fields::put_number(line, shown.total);
+    fields::put_number(line, s.count);
+    fields::put_case(line, s.case);
+    fields::put_flag(line, s.plus);
 }
 
-fn put_role(line: &mut [u8], at: usize, role: Role) -> usize {
+fn put_role(line: &mut Line, role: Role) {
     match role {
-        Role::Master => numbers::put_all(line, at, b" master"),
-        Role::Slave => numbers::put_all(line, at, b" slave"),
+        Role::Master => line.put_all(b" master"),
+        Role::Slave => line.put_all(b" slave"),
     }
 }
 
@@ -267,20 +221,20 @@ fn first_four(seven: Seven) -> Identity {
     Identity(seven.0, seven.1, seven.2, seven.3)
 }
 
-fn put_other(line: &mut [u8], at: usize, other: Peer) -> usize {
+fn put_other(line: &mut Line, other: Peer) {
     match other {
-        Peer::Nobody => numbers::put_all(line, at, b" nobody 0 0 0 0"),
+        Peer::Nobody => line.put_all(b" nobody 0 0 0 0"),
         Peer::Four(identity) => {
-            let to = numbers::put_all(line, at, b" four");
-            put_identity(line, to, identity)
+            line.put_all(b" four");
+            put_identity(line, identity);
         }
         Peer::Known(seven) => {
-            let to = numbers::put_all(line, at, b" seven");
-            put_identity(line, to, first_four(seven))
+            line.put_all(b" seven");
+            put_identity(line, first_four(seven));
         }
         Peer::Barred(seven) => {
-            let to = numbers::put_all(line, at, b" barred");
-            put_identity(line, to, first_four(seven))
+            line.put_all(b" barred");
+            put_identity(line, first_four(seven));
         }
     }
 }
@@ -295,117 +249,99 @@ fn last_three(other: Peer) -> Words {
 }
 
 // A part of the line that is three words.
-fn put_part(line: &mut [u8], at: usize, words: Words) -> usize {
-    let to = numbers::put_all(line, at, b" |");
-    put_words(line, to, words)
+fn put_part(line: &mut Line, words: Words) {
+    line.put_all(b" |");
+    put_words(line, words);
 }
 
 // The role, what the place has of a call, and who is at the other end.
-fn put_calls(line: &mut [u8], from: usize, s: Station) -> usize {
-    let role = s.role;
-    let place = s.place;
-    let other = s.other;
-    let shown = call_fields_of(place);
-    let to = shown.to;
-    let mut at = numbers::put_all(line, from, b" |");
-    at = put_role(line, at, role);
-    at = fields::put_number(line, at, shown.cycles);
-    at = fields::put_number(line, at, shown.last);
-    at = put_identity(line, at, to);
-    put_other(line, at, other)
+fn put_calls(line: &mut Line, s: Station) {
+    let shown = call_fields_of(s.place);
+    line.put_all(b" |");
+    put_role(line, s.role);
+    fields::put_number(line, shown.cycles);
+    fields::put_number(line, shown.last);
+    put_identity(line, shown.to);
+    put_other(line, s.other);
 }
 
 // What the place has of identification, and the last three signals of who is at the other end.
-fn put_told(line: &mut [u8], from: usize, s: Station) -> usize {
-    let place = s.place;
-    let other = s.other;
-    let shown = tell_fields_of(place);
-    let signals = shown.signals;
-    let mut at = numbers::put_all(line, from, b" |");
-    at = fields::put_number(line, at, shown.heard3);
-    at = fields::put_number(line, at, shown.stage);
-    at = fields::put_number(line, at, shown.wrong);
-    at = fields::put_number(line, at, shown.last);
-    at = put_seven(line, at, signals);
-    put_words(line, at, last_three(other))
+fn put_told(line: &mut Line, s: Station) {
+    let shown = tell_fields_of(s.place);
+    line.put_all(b" |");
+    fields::put_number(line, shown.heard3);
+    fields::put_number(line, shown.stage);
+    fields::put_number(line, shown.wrong);
+    fields::put_number(line, shown.last);
+    put_seven(line, shown.signals);
+    put_words(line, last_three(s.other));
 }
 
 // What is owed of an answer.
-fn put_owed(line: &mut [u8], at: usize, owed: Owed) -> usize {
+fn put_owed(line: &mut Line, owed: Owed) {
     match owed {
-        Owed::Nothing => numbers::put_all(line, at, b" | none 0"),
+        Owed::Nothing => line.put_all(b" | none 0"),
         Owed::Back(index) => {
-            let to = numbers::put_all(line, at, b" | back");
-            fields::put_number(line, to, index)
+            line.put_all(b" | back");
+            fields::put_number(line, index);
         }
         Owed::Keep(index) => {
-            let to = numbers::put_all(line, at, b" | keep");
-            fields::put_number(line, to, index)
+            line.put_all(b" | keep");
+            fields::put_number(line, index);
         }
     }
 }
 
-fn put_reply(line: &mut [u8], reply: Reply) -> usize {
-    let station = reply.station;
-    let sent = reply.sent;
-    let printed = reply.printed;
-    let owed = station.owed;
-    let mut at = put_station(line, station);
-    at = put_part(line, at, sent);
-    at = put_part(line, at, printed);
-    at = numbers::put_all(line, at, b" |");
-    at = fields::put_flag(line, at, reply.taken);
-    at = put_calls(line, at, station);
-    at = put_told(line, at, station);
-    put_owed(line, at, owed)
+fn put_reply(line: &mut Line, reply: Reply) {
+    put_station(line, reply.station);
+    put_part(line, reply.sent);
+    put_part(line, reply.printed);
+    line.put_all(b" |");
+    fields::put_flag(line, reply.taken);
+    put_calls(line, reply.station);
+    put_told(line, reply.station);
+    put_owed(line, reply.station.owed);
 }
 
-fn put_answer(line: &mut [u8], stepped: Stepped) -> usize {
+fn put_answer(line: &mut Line, stepped: Result<Reply, Refused>) {
     match stepped {
-        Stepped::Done(reply) => put_reply(line, reply),
-        Stepped::BadStation(_) => filters::put_refusal(line, 0, 4, 0),
-        Stepped::BadCode(_) => filters::put_refusal(line, 0, 9, 0),
-        Stepped::BadWord(index, _) => filters::put_refusal(line, 0, 3, index as u64),
-        Stepped::BadCall(index, _) => filters::put_refusal(line, 0, 8, index as u64),
+        Ok(reply) => put_reply(line, reply),
+        Err(refused) => {
+            let (number, value) = refused.why.told();
+            filters::put_refusal(line, number, value as u64);
+        }
     }
 }
 
-fn answer(stream: Stream, output: &mut [u8], record: &[u8; 84]) -> Stream {
+fn answer(stream: &mut Stream, record: &[u8; 84]) {
     let stepped = station::step(
         written::station_of(record),
         written::burst_of(record),
         written::offer_of(record),
     );
     // no line comes to be full
-    let mut line = [0u8; 224];
-    let mut at = put_answer(&mut line, stepped);
-    at = numbers::put(&mut line, at, 10);
-    stream.put_line(output, &line, at)
+    let mut room = [0u8; 224];
+    let mut line = Line::new(&mut room);
+    put_answer(&mut line, stepped);
+    stream.put_line(line);
 }
 
-// The next record read and answered. A short last one is ignored.
-fn turn(stream: Stream, input: &mut [u8], output: &mut [u8]) -> Stream {
+// A short last record is ignored.
+fn run(rt: HostRuntime) -> Result<(), ExitCode> {
+    filters::no_words(rt, b"steps")?;
+    let mut input = [0u8; 4096];
+    let mut output = [0u8; 4096];
+    let mut stream = Stream::new(rt, &mut input, &mut output);
     let mut record = [0u8; 84];
-    let read = stream.record(input, output, &mut record, 84);
-    let after = read.stream;
-    if read.count != 84 {
-        return after;
+    for _ in 0..u64::MAX {
+        if stream.record(&mut record) != 84 {
+            break;
+        }
+        answer(&mut stream, &record);
     }
-    answer(after, output, &record)
+    stream.finish(b"steps")
 }
 
 fn main(rt: HostRuntime) -> ExitCode {
-    if filters::has_words(rt, b"steps") {
-        return filters::not_run();
-    }
-    let mut input = [0u8; 4096];
-    let mut output = [0u8; 4096];
-    let mut stream = Stream::new(rt);
-    for _ in 0..u64::MAX {
-        if stream.state != filters::GOING {
-            return filters::status(stream.finish(&output, b"steps"));
-        }
-        stream = turn(stream, &mut input, &mut output);
-    }
-    ExitCode::SUCCESS
+    filters::status(run(rt))
 }

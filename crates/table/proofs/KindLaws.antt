@@ -50,6 +50,11 @@ and_right false b e = cc
 never : true ≡ false → ⊥
 never e = let z : ◌≡◌ {A = ℕ} 0 1 = cc in omega arith
 
+-- no block has 0 for its second word
+pub no_block_at_0 : (w : ℕ) → w ≡ 0 → may_hold w ≡ false
+unfolding may_hold traffic_of meaning_of
+no_block_at_0 w e = rw e
+
 pub words_are : (b w : Words) → is_words b w ≡ true → b ≡ w
 unfolding is_words
 words_are b w e =

@@ -2,7 +2,7 @@
 // kind of a burst, and the action that a place takes at each kind. What the actions do is crate `doings`.
 #![tactic(auto)]
 
-ghost use Rattle.std.specs.Prelude.{◌≡◌};
+ghost use Rattle.std.specs.Prelude.{◌≡◌, ◌<◌};
 ghost use Rattle.mode_a.specs.Station.{words};
 ghost use Rattle.mode_a.specs.Heard.{first_of, is_block, is_words};
 ghost use Rattle.table.specs.Kinds.{kind_of, block_kind, rest_kind, column_of};
@@ -92,111 +92,53 @@ pub enum Action {
     Gather,
 }
 
-// Whether a burst is these three words.
-pub fn is_words(b: Words, x: u8, y: u8, z: u8) -> bool
-    ensures { result ≡ is_words b (words x y z) }
-{
-    if b.0 != x {
-        return false;
-    }
-    if b.1 != y {
-        return false;
-    }
-    b.2 == z
-}
-
 // The second word is looked at first: a control signal has 0 behind it, and such a burst is done with at once.
+#[tactic(auto, using(crate::proofs::KindLaws::no_block_at_0), unfolding(mode_a::specs::Heard::is_block))]
 fn is_block(b: Words) -> bool
     ensures { result ≡ is_block b }
 {
-    if b.1 == 0 {
-        return false;
-    }
-    if !mode_a::may_hold(b.1) {
-        return false;
-    }
-    if !mode_a::may_hold(b.2) {
-        return false;
-    }
-    mode_a::may_hold(b.0)
+    b.1 != 0 && mode_a::may_hold(b.1) && mode_a::may_hold(b.2) && mode_a::may_hold(b.0)
 }
 
-// The kind of a block, by its first word.
-fn block_kind(first: u8) -> Kind
-    ensures { result ≡ block_kind (first_of first) }
+// The kind of a block that begins with this word; and of a burst that does, and is neither a block nor one of the three bursts named.
+#[tactic(auto, unfolding(mode_a::specs::Heard::first_of, mode_a::specs::Heard::further_of))]
+fn kinds_by_first(first: u8) -> (Kind, Kind)
+    ensures { result ≡ (block_kind (first_of first), rest_kind (first_of first)) }
 {
-    if first == signals::CS1 {
-        return Kind::Cs1Block;
+    match first {
+        signals::CS1 => (Kind::Cs1Block, Kind::Cs1),
+        signals::CS2 => (Kind::Cs2Block, Kind::Cs2),
+        signals::CS3 => (Kind::Cs3Block, Kind::Cs3),
+        signals::RQ => (Kind::Rq, Kind::Rq),
+        signals::CS4 => (Kind::Cs4Block, Kind::Cs4),
+        signals::CS5 => (Kind::Cs5Block, Kind::Cs5),
+        letter if identity::may_identify(letter) => (Kind::LetterBlock, Kind::Letter),
+        _ => (Kind::Block, Kind::Else),
     }
-    if first == signals::CS2 {
-        return Kind::Cs2Block;
-    }
-    if first == signals::CS3 {
-        return Kind::Cs3Block;
-    }
-    if first == signals::RQ {
-        return Kind::Rq;
-    }
-    if first == signals::CS4 {
-        return Kind::Cs4Block;
-    }
-    if first == signals::CS5 {
-        return Kind::Cs5Block;
-    }
-    if identity::may_identify(first) {
-        return Kind::LetterBlock;
-    }
-    Kind::Block
 }
 
-// The kind of a burst that is neither a block nor one of the three bursts named, by its first word.
-fn rest_kind(first: u8) -> Kind
-    ensures { result ≡ rest_kind (first_of first) }
-{
-    if first == signals::CS1 {
-        return Kind::Cs1;
-    }
-    if first == signals::CS2 {
-        return Kind::Cs2;
-    }
-    if first == signals::CS3 {
-        return Kind::Cs3;
-    }
-    if first == signals::RQ {
-        return Kind::Rq;
-    }
-    if first == signals::CS4 {
-        return Kind::Cs4;
-    }
-    if first == signals::CS5 {
-        return Kind::Cs5;
-    }
-    if identity::may_identify(first) {
-        return Kind::Letter;
-    }
-    Kind::Else
-}
-
+#[tactic(auto, unfolding(crate::specs::Kinds::kind_of, mode_a::specs::Heard::is_words))]
 pub fn kind_of(b: Words) -> Kind
     ensures { result ≡ kind_of b }
 {
+    let (block, rest) = kinds_by_first(b.0);
     if is_block(b) {
-        return block_kind(b.0);
+        block
+    } else if b == mode_a::RQS {
+        Kind::Rqs
+    } else if b == mode_a::ALPHAS {
+        Kind::Alphas
+    } else if b == mode_a::TURN {
+        Kind::Turn
+    } else {
+        rest
     }
-    if is_words(b, signals::RQ, signals::RQ, signals::RQ) {
-        return Kind::Rqs;
-    }
-    if is_words(b, signals::ALPHA, signals::ALPHA, signals::ALPHA) {
-        return Kind::Alphas;
-    }
-    if is_words(b, signals::BETA, signals::ALPHA, signals::BETA) {
-        return Kind::Turn;
-    }
-    rest_kind(b.0)
 }
 
-fn row_no(place: Place) -> usize
-    ensures { result ≡ row_no place }
+// The number of a place, from 0: its row here, and its number in a record (docs/FORMATS.md).
+pub fn row_no(place: Place) -> usize
+    ensures row { result ≡ row_no place }
+    ensures below { result < 12 }
 {
     match place {
         Place::Sending(_) => 0,
@@ -218,26 +160,7 @@ fn row_no(place: Place) -> usize
 pub fn column_of(kind: Kind) -> usize
     ensures { result ≡ column_of kind }
 {
-    match kind {
-        Kind::Cs1Block => 0,
-        Kind::Cs1 => 1,
-        Kind::Cs2Block => 2,
-        Kind::Cs2 => 3,
-        Kind::Cs3Block => 4,
-        Kind::Cs3 => 5,
-        Kind::Cs4Block => 6,
-        Kind::Cs4 => 7,
-        Kind::Cs5Block => 8,
-        Kind::Cs5 => 9,
-        Kind::LetterBlock => 10,
-        Kind::Letter => 11,
-        Kind::Rqs => 12,
-        Kind::Rq => 13,
-        Kind::Block => 14,
-        Kind::Turn => 15,
-        Kind::Alphas => 16,
-        Kind::Else => 17,
-    }
+    kind as usize
 }
 
 // The action of a place at a kind of burst. The table stands on its side: a line is a kind's column, and from left to right are the

@@ -1,5 +1,5 @@
 -- Whose burst is on the way after one was heard. Assumes nothing.
-use mathlib.Core.Path.{◌≡◌, refl, ap, sym, ◌∙◌}
+use mathlib.Core.Path.{◌≡◌, refl, ap}
 use mathlib.Core.Bool.{Bool, true, false}
 use Rattle.std.specs.Prelude.{if◌then◌else◌}
 use Rattle.signals.specs.Numbers.{answered}
@@ -10,7 +10,6 @@ use Rattle.mode_a.specs.declared.Reply.{Reply}
 use Rattle.entries.specs.declared.Standing.{Standing}
 use Rattle.entries.specs.Entries.{other_role}
 use Rattle.entries.specs.Passage.{offering, hearing, turned, answered_to}
-use Rattle.telling.specs.Telling.{Leaves}
 
 -- an offer leaves the turn
 pub same_turn : (s : Standing) (r : Role) (o : Offer) → (offering s r o).turn ≡ s.turn
@@ -23,8 +22,3 @@ other_turn s x = go x.taken
     go : (t : Bool) → (turned (if t then offering s (hearing s) Offer.Nothing else s)).turn ≡ hearing s
     go true = ap other_role (same_turn s (hearing s) Offer.Nothing)
     go false = refl
-
-pub turned_so : (s : Standing) (t : Bool) (r : Role) → r ≡ hearing s → (y : Standing) → y ≡ (if t then offering s (hearing s) Offer.Nothing else s) → Leaves s t (record { turn = r; master = y.master; slave = y.slave })
-turned_so s t r e y i x j =
-    let k : y ≡ (if x.taken then offering s (hearing s) Offer.Nothing else s) = rw j i in
-    λ l. record { turn = (e ∙ sym (other_turn s x)) l; master = (k l).master; slave = (k l).slave }

@@ -1,6 +1,6 @@
 -- 02, T-07: what is wrong with an entry, by its parts; what it says; and what a burst leaves of the offers.
 -- Assumes nothing.
-use Rattle.std.specs.Prelude.{◌≡◌, Bool, ℕ, if◌then◌else◌}
+use Rattle.std.specs.Prelude.{◌≡◌, Bool, ℕ, if◌then◌else◌, Result, Ok, Err}
 use Rattle.signals.specs.Numbers.{answered}
 use Rattle.mode_a.specs.declared.Role.{Role}
 use Rattle.mode_a.specs.declared.Offer.{Offer}
@@ -12,14 +12,15 @@ use Rattle.entries.specs.Passage.{answered_to, fault_of}
 use Rattle.telling.specs.declared.Fault.{Fault}
 use Rattle.telling.specs.declared.Told.{Told}
 
-abbrev pub number_of : Fault → ℕ
-number_of Fault.None = 0
-number_of Fault.BadBurst = 12
-number_of Fault.StillOffered = 13
-number_of Fault.BadWord = 3
+-- the number, 0 where nothing is wrong
+abbrev pub number_of : Result (Unit {0}) Fault → ℕ
+number_of (Ok u) = 0
+number_of (Err Fault.BadBurst) = 12
+number_of (Err Fault.StillOffered) = 13
+number_of (Err Fault.BadWord) = 3
 
 -- of a burst, by whose turn it is; of an offer, by whether one stands already, and whether a word of it may not stand there
-abbrev pub BurstFault : Role → Role → ℕ → Fault → Type 0
+abbrev pub BurstFault : Role → Role → ℕ → Result (Unit {0}) Fault → Type 0
 BurstFault turn r d f = (s : Standing) → s.turn ≡ turn → number_of f ≡ fault_of s (Burst r d)
 
 abbrev pub offer_fault : Bool → Bool → ℕ

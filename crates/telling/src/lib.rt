@@ -14,9 +14,8 @@ use entries::{Entry, Standing};
 use mode_a::{Offer, Role, Words};
 
 // What is wrong with an entry.
-#[derive(Clone, Copy)]
+#[derive(Clone, Copy, PartialEq, Eq)]
 pub enum Fault {
-    None,
     // 12: a burst out of turn, or bits 3 to 7 set
     BadBurst,
     // 13: an offer before that station's last was taken
@@ -47,22 +46,14 @@ pub fn first() -> Standing
 pub fn hearing(standing: Standing) -> Role
     ensures { result ≡ hearing standing }
 {
-    let turn = standing.turn;
-    entries::other(turn)
+    entries::other(standing.turn)
 }
 
 // Whether an offer stands.
 fn stands(offer: Offer) -> bool
     ensures { result ≡ stands offer }
 {
-    match offer {
-        Offer::Text(_) => true,
-        Offer::Over => true,
-        Offer::End => true,
-        Offer::Nothing => false,
-        Offer::Call(_) => true,
-        Offer::Call3(_) => true,
-    }
+    !matches!(offer, Offer::Nothing)
 }
 
 // The offer that stands for a station.
@@ -79,24 +70,15 @@ pub fn offer_to(standing: Standing, role: Role) -> Offer
 pub fn offered(standing: Standing, role: Role, offer: Offer) -> Standing
     ensures { result ≡ offering standing role offer }
 {
-    let turn = standing.turn;
     match role {
-        Role::Master => {
-            let slave = standing.slave;
-            Standing {
-                turn: turn,
-                master: offer,
-                slave: slave,
-            }
-        }
-        Role::Slave => {
-            let master = standing.master;
-            Standing {
-                turn: turn,
-                master: master,
-                slave: offer,
-            }
-        }
+        Role::Master => Standing {
+            master: offer,
+            ..standing
+        },
+        Role::Slave => Standing {
+            slave: offer,
+            ..standing
+        },
     }
 }
 
@@ -110,12 +92,9 @@ pub fn turned(standing: Standing, taken: bool) -> Standing
     } else {
         standing
     };
-    let master = left.master;
-    let slave = left.slave;
     Standing {
         turn: hearer,
-        master: master,
-        slave: slave,
+        ..left
     }
 }
 
@@ -127,50 +106,44 @@ fn still(standing: Standing, role: Role) -> bool
 }
 
 // A burst: 12 where it is not this station's turn, or a bit is set that is no word's.
-fn burst_fault(turn: Role, role: Role, damage: u8) -> Fault
+fn burst_fault(turn: Role, role: Role, damage: u8) -> Result<(), Fault>
     ensures { BurstFault turn role damage result }
 {
-    if !entries::same(role, turn) {
-        return Fault::BadBurst;
+    if !entries::same(role, turn) || 7 < damage {
+        return Err(Fault::BadBurst);
     }
-    if 7 < damage {
-        return Fault::BadBurst;
-    }
-    Fault::None
+    Ok(())
 }
 
 // Whether a word of a text offer is neither traffic nor β.
+#[tactic(auto, unfolding(signals::specs::Numbers::first_not))]
 fn bad_word(text: Words) -> bool
     ensures { result ≡ ltb (first_not may_hold (list_of text)) 3 }
 {
-    !(mode_a::may_hold(text.0) & mode_a::may_hold(text.1) & mode_a::may_hold(text.2))
+    !(mode_a::may_hold(text.0) && mode_a::may_hold(text.1) && mode_a::may_hold(text.2))
 }
 
 // An offer: 13 where one stands already, and then 3.
-fn offer_fault(still: bool, bad: bool) -> Fault
+fn offer_fault(still: bool, bad: bool) -> Result<(), Fault>
     ensures { number_of result ≡ offer_fault still bad }
 {
     if still {
-        return Fault::StillOffered;
+        return Err(Fault::StillOffered);
     }
     if bad {
-        return Fault::BadWord;
+        return Err(Fault::BadWord);
     }
-    Fault::None
+    Ok(())
 }
 
-// What is wrong with an entry: 12, or 13 and then 3.
-pub fn fault_of(standing: Standing, entry: Entry) -> Fault
+// What is wrong with an entry, where anything is: 12, or 13 and then 3.
+pub fn fault_of(standing: Standing, entry: Entry) -> Result<(), Fault>
     ensures { number_of result ≡ fault_of standing entry }
 {
     match entry {
-        Entry::Burst(role, damage) => {
-            let turn = standing.turn;
-            burst_fault(turn, role, damage)
-        }
+        Entry::Burst(role, damage) => burst_fault(standing.turn, role, damage),
         Entry::Text(role, text) => offer_fault(still(standing, role), bad_word(text)),
-        Entry::Over(role) => offer_fault(still(standing, role), false),
-        Entry::End(role) => offer_fault(still(standing, role), false),
+        Entry::Over(role) | Entry::End(role) => offer_fault(still(standing, role), false),
     }
 }
 
@@ -190,10 +163,7 @@ pub fn says(entry: Entry) -> Told
 fn arrived(word: u8, hurt: u8) -> u8
     ensures { result ≡ (if eqb hurt 0 then word else 0) }
 {
-    if hurt == 0 {
-        return word;
-    }
-    0
+    if hurt == 0 { word } else { 0 }
 }
 
 // The burst as it is heard: bit i of the damage byte is word i.

@@ -17,8 +17,7 @@ use Rattle.signals.specs.declared.Case.TheVariants.{Letters, Figures}
 use Rattle.signals.specs.Signals.{Signal, pair, lone, free, mute, signals}
 use Rattle.signals.specs.Meaning.{meaning_of, traffic_of}
 use Rattle.signals.specs.Numbers.{first_not}
-use Rattle.text.specs.declared.Character.TheVariants.{Without}
-use Rattle.text.specs.Encoding.{raised, character_in, character_of, signals_for, case_after, is_character, has_signal}
+use Rattle.text.specs.Encoding.{Without, raised, character_in, character_of, signals_for, case_after, is_character, has_signal}
 use Rattle.text.specs.Printing.{bytes_of, printed, ends_printed, may_print}
 use Rattle.text.proofs.RaisedLaws.{raised_stays, small_past}
 

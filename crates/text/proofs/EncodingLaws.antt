@@ -7,9 +7,7 @@ use lib.ListN.{length, length-append}
 use Rattle.signals.specs.declared.Case.{Case}
 use Rattle.signals.specs.declared.Case.TheVariants.{Letters, Figures}
 use Rattle.signals.specs.Numbers.{first_not}
-use Rattle.text.specs.declared.Character.{Character}
-use Rattle.text.specs.declared.Character.TheVariants.{Without, Either, Needing}
-use Rattle.text.specs.Encoding.{character_of, shift, signals_for, case_after, encoded, ends_encoded, has_signal, encoding}
+use Rattle.text.specs.Encoding.{Character, Without, Either, Needing, character_of, shift, signals_for, case_after, encoded, ends_encoded, has_signal, encoding}
 use Rattle.text.proofs.WalkLaws.{Walk}
 use Rattle.text.proofs.AnswerLaws.{judged}
 

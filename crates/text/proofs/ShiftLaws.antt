@@ -15,12 +15,11 @@ use Rattle.signals.specs.declared.Case.TheVariants.{Letters, Figures}
 use Rattle.signals.specs.Meaning.{letters, figures}
 use Rattle.signals.specs.Numbers.{answered, first_not}
 use Rattle.signals.proofs.NumberLaws.{all_head}
-use Rattle.text.specs.declared.Character.{Character}
-use Rattle.text.specs.declared.Character.TheVariants.{Without, Either, Needing}
 use Rattle.text.specs.Written.{Written}
-use Rattle.text.specs.Encoding.{raised, character_of, shift, signals_for, case_after, has_signal, encoded, ends_encoded, encoding}
+use Rattle.text.specs.Encoding.{Character, Without, Either, Needing, raised, character_of, shift, signals_for, case_after, has_signal, encoded, ends_encoded, encoding}
 use Rattle.text.specs.Printing.{case_at, ends_printed}
-use Rattle.text.specs.Shifts.{shift_to, Needed}
+use Rattle.signals.specs.Cases.{shift_to}
+use Rattle.text.specs.Shifts.{Needed}
 use Rattle.text.proofs.AnswerLaws.{answered_means}
 use Rattle.text.proofs.EncodingLaws.{encoded_walk, encoding_judged, encode_after}
 use Rattle.text.proofs.PrintingLaws.{printed_walk}

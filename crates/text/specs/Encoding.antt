@@ -1,15 +1,21 @@
 -- 01, Text: characters to signals, and 02, T-01: small letters.  R-026, R-027, R-028, R-029, R-030, R-031, R-038
 -- Assumes nothing.
-use Rattle.std.specs.Prelude.{◌≡◌, Bool, true, false, ◌&&◌, List, [], ◌∷◌, ◌++◌, ℕ, ◌-◌, eqb, ltb, leb, length, if◌then◌else◌}
+use Rattle.std.specs.Prelude.{◌≡◌, Bool, true, false, ◌&&◌, List, [], ◌∷◌, ◌++◌, ℕ, ◌-◌, eqb, ltb, leb, length, if◌then◌else◌, Result, Ok, Err}
 use Rattle.signals.specs.declared.Case.{Case}
 use Rattle.signals.specs.declared.Case.TheVariants.{Letters, Figures}
 use Rattle.signals.specs.Signals.{Signal, pair, lone, free, mute, signals}
 use Rattle.signals.specs.Meaning.{letters, figures}
 use Rattle.signals.specs.Numbers.{Answer, answered, refused, first_not}
-use Rattle.text.specs.declared.Character.{Character}
-use Rattle.text.specs.declared.Character.TheVariants.{Without, Either, Needing}
-use Rattle.text.specs.declared.Encoded.{Encoded}
+use Rattle.text.specs.declared.Written as told
+use Rattle.text.specs.declared.EncodeError.{EncodeError}
 use Rattle.text.specs.Written.{Written, Counted, counted, leaves}
+
+-- What a byte is to the encoder: no character, one that needs no case, or one that needs the case named; and its signal's word. A
+-- small letter is what its capital is.
+pub data Character : Type 0 where
+  Without : Character
+  Either : (word : ℕ) → Character
+  Needing : (case : Case) (word : ℕ) → Character
 
 -- "Capitals, the figures above, 13, 10, 32, 5 (who are you) and 7 (bell) have signals; no other byte does."  R-027, R-028
 -- "return, line feed and space need none"  R-031. Of the kinds of signal only `free` is the same in either case.
@@ -81,13 +87,13 @@ encoding text c room =
     else answered (record { bytes = encoded c text; ends = ends_encoded c text })
 
 -- each case of the answer, by 01's number and the value beside it  R-167
-abbrev pub said_encoded : Encoded → Answer Counted
-said_encoded (Encoded.Written n c) = answered (record { count = n; ends = c })
-said_encoded Encoded.TooLong = refused 5 4096
-said_encoded (Encoded.NoSignal i) = refused 1 i
-said_encoded (Encoded.NoRoom n) = refused 2 n
+abbrev pub said_encoded : Result told.Written EncodeError → Answer Counted
+said_encoded (Ok w) = answered (record { count = w.count; ends = w.ends })
+said_encoded (Err EncodeError.TooLong) = refused 5 4096
+said_encoded (Err (EncodeError.NoSignal i)) = refused 1 i
+said_encoded (Err (EncodeError.NoRoom n)) = refused 2 n
 
 -- The promise of `encode`: r is the answer, and `after` the lent room afterwards.  R-168
-abbrev pub Encodes : List ℕ → Case → List ℕ → Encoded → List ℕ → Type 0
+abbrev pub Encodes : List ℕ → Case → List ℕ → Result told.Written EncodeError → List ℕ → Type 0
 Encodes text c room r after =
     (said_encoded r ≡ counted (encoding text c (length room))) × (after ≡ leaves (encoding text c (length room)) room)

@@ -1,12 +1,13 @@
 -- 01, Text: signals to characters.  R-032, R-033, R-034, R-035, R-036, R-038
 -- Assumes nothing.
-use Rattle.std.specs.Prelude.{◌≡◌, Bool, ◌||◌, List, [], ◌∷◌, ◌++◌, ℕ, eqb, ltb, length, if◌then◌else◌}
+use Rattle.std.specs.Prelude.{◌≡◌, Bool, ◌||◌, List, [], ◌∷◌, ◌++◌, ℕ, eqb, ltb, length, if◌then◌else◌, Result, Ok, Err}
 use Rattle.signals.specs.declared.Case.{Case}
 use Rattle.signals.specs.declared.Case.TheVariants.{Letters, Figures}
 use Rattle.signals.specs.Signals.{Signal, pair, lone, free, mute, signals, word_of}
 use Rattle.signals.specs.Meaning.{traffic_of, letters, figures, error_mark}
 use Rattle.signals.specs.Numbers.{Answer, answered, refused, first_not}
-use Rattle.text.specs.declared.Printed.{Printed}
+use Rattle.text.specs.declared.Written as told
+use Rattle.text.specs.declared.PrintError.{PrintError}
 use Rattle.text.specs.Written.{Written, Counted, counted, leaves}
 
 -- "one rule for letters case, one for figures case"  R-033
@@ -60,13 +61,13 @@ printing ws c room =
     else answered (record { bytes = printed c ws; ends = ends_printed c ws })
 
 -- each case of the answer, by 01's number and the value beside it  R-167
-abbrev pub said_printed : Printed → Answer Counted
-said_printed (Printed.Written n c) = answered (record { count = n; ends = c })
-said_printed Printed.TooLong = refused 7 8192
-said_printed (Printed.BadWord i) = refused 3 i
-said_printed (Printed.NoRoom n) = refused 2 n
+abbrev pub said_printed : Result told.Written PrintError → Answer Counted
+said_printed (Ok w) = answered (record { count = w.count; ends = w.ends })
+said_printed (Err PrintError.TooLong) = refused 7 8192
+said_printed (Err (PrintError.BadWord i)) = refused 3 i
+said_printed (Err (PrintError.NoRoom n)) = refused 2 n
 
 -- The promise of `print`: r is the answer, and `after` the lent room afterwards.  R-168
-abbrev pub Prints : List ℕ → Case → List ℕ → Printed → List ℕ → Type 0
+abbrev pub Prints : List ℕ → Case → List ℕ → Result told.Written PrintError → List ℕ → Type 0
 Prints ws c room r after =
     (said_printed r ≡ counted (printing ws c (length room))) × (after ≡ leaves (printing ws c (length room)) room)

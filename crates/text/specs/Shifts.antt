@@ -4,19 +4,8 @@
 -- Assumes nothing.
 use Rattle.std.specs.Prelude.{◌≡◌, List, ◌∷◌, ℕ}
 use Rattle.signals.specs.declared.Case.{Case}
-use Rattle.signals.specs.declared.Case.TheVariants.{Letters, Figures}
-use Rattle.signals.specs.Meaning.{letters, figures}
-use Rattle.text.specs.declared.Character.TheVariants.{Needing}
-use Rattle.text.specs.Encoding.{character_of}
-
--- the shift to a case
-abbrev pub shift_to : Case → ℕ
-shift_to Letters = letters
-shift_to Figures = figures
-
-abbrev pub other : Case → Case
-other Letters = Figures
-other Figures = Letters
+use Rattle.signals.specs.Cases.{other}
+use Rattle.text.specs.Encoding.{Needing, character_of}
 
 -- a shift to the case d stands where c is in force, and `after` follows it: c is the other case, and directly after the
 -- shift comes the signal of a character that needs d

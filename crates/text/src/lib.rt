@@ -4,20 +4,16 @@
 
 use signals::Case;
 
-// What a byte is to the encoder: no character, one that needs no case, or one that needs the case named; and its signal's word. A
-// small letter is what its capital is.
-#[derive(Clone, Copy)]
-pub enum Character {
-    Without,
-    Either(u8),
-    Needing(Case, u8),
+// What both calls answer: how many signals or bytes were written, and the case after the last signal.
+#[derive(Clone, Copy, PartialEq, Eq)]
+pub struct Written {
+    pub count: usize,
+    pub ends: Case,
 }
 
-// What encoding answers.
-#[derive(Clone, Copy)]
-pub enum Encoded {
-    // How many signals were written, and the case after the last.
-    Written { count: usize, ends: Case },
+// What encoding refuses.
+#[derive(Clone, Copy, PartialEq, Eq)]
+pub enum EncodeError {
     // 5: over 4,096 characters.
     TooLong,
     // 1: a byte without a signal; the index of the first.
@@ -26,11 +22,9 @@ pub enum Encoded {
     NoRoom(usize),
 }
 
-// What printing answers.
-#[derive(Clone, Copy)]
-pub enum Printed {
-    // How many bytes were written, and the case after the last signal.
-    Written { count: usize, ends: Case },
+// What printing refuses.
+#[derive(Clone, Copy, PartialEq, Eq)]
+pub enum PrintError {
     // 7: over 8,192 signals.
     TooLong,
     // 3: a word that is neither traffic nor the error mark; the index of the first.

@@ -2,12 +2,12 @@
 use mathlib.Core.Path.{◌≡◌, refl, ap, sym, ◌∙◌}
 use mathlib.Core.Bool.{Bool, true, false}
 use mathlib.Core.List.{List, [], ◌∷◌, ◌++◌, append-nil}
-use Prim.Native.Nat.{ℕ, ◌+◌, ◌≤◌, ◌<◌}
+use Prim.Native.Nat.{ℕ, ◌+◌, ◌≤◌}
 use native.Mathlib.Nat.{add-zero, add_assoc}
 use native.Mathlib.Omega.{arith}
 use lib.Dec.{eqb}
 use lib.ListN.{length, set, length-append}
-use lib.Seq.{sets, length-sets}
+use lib.Seq.{sets}
 use borrow.Author.Tests.{ne_eqb}
 use Rattle.std.specs.Prelude.{if◌then◌else◌}
 use Rattle.laws.proofs.Writes.{sets_append}
@@ -16,11 +16,10 @@ use Rattle.text.proofs.WalkLaws.{all_append, ends_append}
 use Rattle.text.proofs.PrintingLaws.{printed_walk}
 use Rattle.judging.proofs.SizeLaws.{at_most}
 use Rattle.mode_a.specs.declared.Words.{Words}
-use Rattle.mode_a.specs.Station.{list_of}
 use Rattle.runs.specs.Circuit.{without_zeros}
 use Rattle.signals.specs.declared.Case.{Case}
 use Rattle.typing.specs.declared.Typed.{Typed}
-use Rattle.typing.specs.Typing.{signal_in, signals_in, Fits, typed_on, Types}
+use Rattle.typing.specs.Typing.{signal_in, signals_in, typed_on, Types}
 
 -- the words of a step's print, one by one
 without_more : (w : ℕ) (ws : List ℕ) → without_zeros (w ∷ ws) ≡ signal_in w ++ without_zeros ws
@@ -52,13 +51,9 @@ pub one_in : (w : ℕ) → (w ≡ 0 → ⊥) → signal_in w ≡ w ∷ []
 one_in w f = rw (ne_eqb w 0 f)
 
 -- nothing is put
-pub types_none : (t : Typed) (write : Bool) (room : List ℕ) → Types [] t write room t room
-types_none t write room =
-    (sym (rw (printed_walk.nil t.case, printed_walk.ends_nil t.case, add-zero t.to)), rw (printed_walk.nil t.case) (by write))
-  where
-    by : (b : Bool) → room ≡ (if b then sets room t.to [] else room)
-    by true = refl
-    by false = refl
+pub types_none : (t : Typed) (room : List ℕ) → Types [] t room t room
+types_none t room =
+    (sym (rw (printed_walk.nil t.case, printed_walk.ends_nil t.case, add-zero t.to)), rw (printed_walk.nil t.case))
 
 -- one signal
 one_prints : (c : Case) (w : ℕ) → printed c (w ∷ []) ≡ bytes_of c w
@@ -67,32 +62,15 @@ one_prints c w = printed_walk.cons c w [] ∙ rw (printed_walk.nil (case_at c w)
 one_ends : (c : Case) (w : ℕ) → ends_printed c (w ∷ []) ≡ case_at c w
 one_ends c w = printed_walk.ends_cons c w [] ∙ printed_walk.ends_nil (case_at c w)
 
-module _ (t : Typed) (w : ℕ) (write : Bool) (room : List ℕ) where
+module _ (t : Typed) (w : ℕ) (room : List ℕ) where
   -- without a byte
-  pub types_silent : bytes_of t.case w ≡ [] → Types (w ∷ []) t write room (record { to = t.to; case = case_at t.case w }) room
-  types_silent e =
-      (rw (one_prints t.case w, one_ends t.case w, e, add-zero t.to), rw (one_prints t.case w, e) (by write))
-    where
-      by : (b : Bool) → room ≡ (if b then sets room t.to [] else room)
-      by true = refl
-      by false = refl
+  pub types_silent : bytes_of t.case w ≡ [] → Types (w ∷ []) t room (record { to = t.to; case = case_at t.case w }) room
+  types_silent e = (rw (one_prints t.case w, one_ends t.case w, e, add-zero t.to), rw (one_prints t.case w, e))
 
-  -- with one
-  pub types_byte : {g : ℕ} {after : List ℕ} → bytes_of t.case w ≡ g ∷ [] → after ≡ (if write then set room t.to g else room) →
-      Types (w ∷ []) t write room (record { to = t.to + 1; case = case_at t.case w }) after
-  types_byte {g} e a =
-      (rw (one_prints t.case w, one_ends t.case w, e), rw (one_prints t.case w, e) (a ∙ by write))
-    where
-      by : (b : Bool) → (if b then set room t.to g else room) ≡ (if b then sets room t.to (g ∷ []) else room)
-      by true = refl
-      by false = refl
-
--- a byte that is to be written has room
-pub byte_fits : (t : Typed) (w n : ℕ) {g : ℕ} → bytes_of t.case w ≡ g ∷ [] → Fits (w ∷ []) t true n → t.to < n
-byte_fits t w n e f =
-    let has : t.to + length (printed t.case (w ∷ [])) ≤ n = f refl in
-    let one : length (printed t.case (w ∷ [])) ≡ 1 = rw (one_prints t.case w, e) in
-    omega arith
+  -- with one, which is stored or, where the room has no place for it, dropped
+  pub types_byte : {g : ℕ} {after : List ℕ} → bytes_of t.case w ≡ g ∷ [] → after ≡ set room t.to g →
+      Types (w ∷ []) t room (record { to = t.to + 1; case = case_at t.case w }) after
+  types_byte {g} e a = (rw (one_prints t.case w, one_ends t.case w, e), rw (one_prints t.case w, e) a)
 
 -- some signals behind others
 module _ (ss us : List ℕ) (t : Typed) where
@@ -105,37 +83,10 @@ module _ (ss us : List ℕ) (t : Typed) where
   both_typed =
       rw (both_print, ends_append printed ends_printed bytes_of case_at printed_walk t.case ss us, add_assoc t.to (length (printed t.case ss)) (length (printed (ends_printed t.case ss) us)))
 
-  module _ (write : Bool) where
-    pub types_then : (room mid after : List ℕ) (r s : Typed) → Types ss t write room r mid → Types us r write mid s after →
-        Types (ss ++ us) t write room s after
-    types_then room mid after r s a b = (
-      b.0 ∙ ap (λ (u : Typed). typed_on u us) a.0 ∙ both_typed,
-      rw (a.0, a.1) at b.1 ∙ by write,
-    )
-      where
-        by : (v : Bool) →
-            (if v then sets (if v then sets room t.to (printed t.case ss) else room) (t.to + length (printed t.case ss)) (printed (ends_printed t.case ss) us) else (if v then sets room t.to (printed t.case ss) else room))
-            ≡ (if v then sets room t.to (printed t.case (ss ++ us)) else room)
-        by true =
-            sets_append room t.to (printed t.case ss) (printed (ends_printed t.case ss) us)
-            ∙ ap (λ (l : List ℕ). sets room t.to l) (sym (all_append printed ends_printed bytes_of case_at printed_walk t.case ss us))
-        by false = refl
-
-    -- where there is room for both there is for each
-    module _ {n : ℕ} (f : Fits (ss ++ us) t write n) where
-      pub fits_first : Fits ss t write n
-      fits_first e = omega (arith, f e, both_print)
-
-      pub fits_then : {r : Typed} → r ≡ typed_on t ss → Fits us r write n
-      fits_then q e = rw q (omega (arith, f e, both_print))
-
--- the room stays as long
-pub types_length : (ss : List ℕ) (t r : Typed) (write : Bool) (room after : List ℕ) → Types ss t write room r after → length after ≡ length room
-types_length ss t r write room after p = ap (λ (l : List ℕ). length l) p.1 ∙ by write
-  where
-    by : (b : Bool) → length (if b then sets room t.to (printed t.case ss) else room) ≡ length room
-    by true = length-sets room t.to (printed t.case ss)
-    by false = refl
-
-pub fits_length : (ss : List ℕ) (t : Typed) (write : Bool) (n m : ℕ) → m ≡ n → Fits ss t write n → Fits ss t write m
-fits_length ss t write n m e f = rw e f
+  pub types_then : (room mid after : List ℕ) (r s : Typed) → Types ss t room r mid → Types us r mid s after → Types (ss ++ us) t room s after
+  types_then room mid after r s a b = (
+    b.0 ∙ ap (λ (u : Typed). typed_on u us) a.0 ∙ both_typed,
+    rw (a.0, a.1) at b.1
+        ∙ sets_append room t.to (printed t.case ss) (printed (ends_printed t.case ss) us)
+        ∙ ap (λ (l : List ℕ). sets room t.to l) (sym (all_append printed ends_printed bytes_of case_at printed_walk t.case ss us)),
+  )

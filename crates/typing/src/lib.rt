@@ -1,10 +1,10 @@
-// A station's printed signals put into its room block by block, with the case carried from one block to the next (02, T-07; 01, Text). The
-// bytes are counted whether they are written or not.
+// A station's printed signals put into its room block by block, with the case carried from one block to the next (02, T-07; 01, Text). All
+// bytes are counted; those that find no room are dropped, so an empty room makes a count alone.
 #![tactic(auto)]
 
-ghost use Rattle.std.specs.Prelude.{◌≡◌, Bool, true, ◌+◌, ◌<◌, ◌^◌, length};
+ghost use Rattle.std.specs.Prelude.{◌≡◌, ◌+◌, ◌<◌, ◌^◌};
 ghost use Rattle.text.specs.Printing.{case_at};
-ghost use Rattle.typing.specs.Typing.{MayType, MayTypeAll, signal_in, signals_in, Fits, Types};
+ghost use Rattle.typing.specs.Typing.{MayType, MayTypeAll, signal_in, signals_in, Types};
 
 use mode_a::Words;
 use signals::Case;
@@ -20,48 +20,41 @@ pub struct Typed {
 fn case_after(case: Case, word: u8) -> Case
     ensures { result ≡ case_at case word }
 {
-    if word == signals::LETTERS {
-        return Case::Letters;
+    match word {
+        signals::LETTERS => Case::Letters,
+        signals::FIGURES => Case::Figures,
+        _ => case,
     }
-    if word == signals::FIGURES {
-        return Case::Figures;
-    }
-    case
 }
 
 // Puts one signal, or nothing where the word is 0.
-fn put_word(word: u8, typed: Typed, room: &mut [u8], write: bool) -> Typed
-    requires { MayType word × (typed.to + 1 < 2 ^ 64) × Fits (signal_in word) typed write (length room.old) }
-    ensures { Types (signal_in word) typed write room.old result room.new }
+fn put_word(word: u8, typed: Typed, room: &mut [u8]) -> Typed
+    requires { MayType word × (typed.to + 1 < 2 ^ 64) }
+    ensures { Types (signal_in word) typed room.old result room.new }
 {
     if word == 0 {
         return typed;
     }
-    let to = typed.to;
-    let case = typed.case;
-    let byte = printing::glyph(case, word);
-    let after = case_after(case, word);
+    let byte = printing::glyph(typed.case, word);
+    let case = case_after(typed.case, word);
     if byte == 0 {
-        return Typed {
-            to: to,
-            case: after,
-        };
+        return Typed { case, ..typed };
     }
-    if write {
-        room[to] = byte;
+    if typed.to < room.len() {
+        room[typed.to] = byte;
     }
     Typed {
-        to: to + 1,
-        case: after,
+        to: typed.to + 1,
+        case,
     }
 }
 
 // Puts the signals that a step has printed, which have 0 behind them.
-pub fn put(words: Words, typed: Typed, room: &mut [u8], write: bool) -> Typed
-    requires { MayTypeAll words × (typed.to + 3 < 2 ^ 64) × Fits (signals_in words) typed write (length room.old) }
-    ensures { Types (signals_in words) typed write room.old result room.new }
+pub fn put(words: Words, typed: Typed, room: &mut [u8]) -> Typed
+    requires { MayTypeAll words × (typed.to + 3 < 2 ^ 64) }
+    ensures { Types (signals_in words) typed room.old result room.new }
 {
-    let one = put_word(words.0, typed, room, write);
-    let two = put_word(words.1, one, room, write);
-    put_word(words.2, two, room, write)
+    let one = put_word(words.0, typed, room);
+    let two = put_word(words.1, one, room);
+    put_word(words.2, two, room)
 }

@@ -7,7 +7,7 @@
 --     WalkingLaws   the walk over a record
 mod RoomLaws
 mod TypedLaws
-mod OutcomeLaws
+pub mod OutcomeLaws
 mod TellLaws
 mod LookLaws
 mod WalkingLaws

@@ -17,13 +17,12 @@ use Rattle.mode_a.specs.declared.Role.TheVariants.{Master, Slave}
 use Rattle.mode_a.specs.declared.Offer.{Offer}
 use Rattle.mode_a.specs.declared.Reply.{Reply}
 use Rattle.mode_a.specs.Station.{list_of}
-use Rattle.runs.specs.Circuit.{Event, without_zeros, said, after}
+use Rattle.runs.specs.Circuit.{without_zeros, said, after}
 use Rattle.entries.specs.declared.Entry.{Entry}
 use Rattle.entries.specs.declared.Entry.TheVariants.{Burst, Text, Over, End}
-use Rattle.entries.specs.declared.Standing.{Standing}
 use Rattle.entries.specs.Entries.{other_role, same_role, written}
-use Rattle.entries.specs.Passage.{Passage, begins, circuit_of, event_of, answered_to, after_burst, after_offer, tells, printed_in, signals_of, text_of}
-use Rattle.entries.proofs.TellLaws.{turn_answered, prints_more, burst_prints, offer_turn, offer_prints, text_more}
+use Rattle.entries.specs.Passage.{Passage, begins, circuit_of, event_of, answered_to, after_offer, tells, printed_in, signals_of, text_of}
+use Rattle.entries.proofs.TellLaws.{turn_answered, prints_more, burst_prints, text_more}
 
 -- by whose burst is on the way: the bytes of the record so far, and those of the two texts
 abbrev WithinAt : Role → ℕ → ℕ → ℕ → Type 0

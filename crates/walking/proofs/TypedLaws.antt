@@ -4,10 +4,9 @@ use mathlib.Core.Bool.{Bool, true, false}
 use mathlib.Core.List.{List, [], ◌∷◌, ◌++◌, append-nil}
 use Prim.Native.Nat.{ℕ, ◌+◌, ◌≤◌}
 use native.Mathlib.Nat.{zero-add}
-use native.Mathlib.Omega.{arith}
 use lib.Dec.{eqb}
 use lib.ListN.{length, length-append}
-use lib.Seq.{sets, length-sets}
+use lib.Seq.{sets}
 use borrow.Author.Tests.{eqb-true}
 use Rattle.std.specs.Prelude.{if◌then◌else◌}
 use Rattle.laws.proofs.Writes.{sets_append}
@@ -24,7 +23,7 @@ use Rattle.runs.specs.Circuit.{without_zeros}
 use Rattle.entries.specs.Passage.{Passage, signals_of, text_of}
 use Rattle.entries.proofs.TellLaws.{text_more}
 use Rattle.typing.specs.declared.Typed.{Typed}
-use Rattle.typing.specs.Typing.{MayType, MayTypeAll, Fits, typed_on, Types}
+use Rattle.typing.specs.Typing.{MayType, MayTypeAll, typed_on, Types}
 use Rattle.walking.specs.Walk.{typed_of, wrote_in}
 
 -- the words that a step has printed may each be put
@@ -43,38 +42,25 @@ may_put_all w h =
     let two = may_put w.1 (w.2 ∷ []) one.1 in
     (one.0, two.0, (may_put w.2 [] two.1).0)
 
--- a room that is written has its length
-pub wrote_length : (write : Bool) (text room : List ℕ) → length (wrote_in write text room) ≡ length room
-wrote_length true text room = length-sets room 0 text
-wrote_length false text room = refl
-
 module _ (p q : Passage) (r : Role) (ws : List ℕ) (e : signals_of q r ≡ signals_of p r ++ ws) where
   more_printed : length (text_of q r) ≡ length (text_of p r) + length (printed (ends_printed Letters (signals_of p r)) ws)
   more_printed =
       ap (λ (l : List ℕ). length l) (text_more p q r ws e) ∙ length-append (text_of p r) (printed (ends_printed Letters (signals_of p r)) ws)
 
-  -- there is room for what is put, where there is for the text after it
-  pub more_fits : (write : Bool) (n : ℕ) → (write ≡ true → length (text_of q r) ≤ n) → Fits ws (typed_of p r) write n
-  more_fits write n f w = omega (arith, f w, more_printed)
-
   typed_more : typed_on (typed_of p r) ws ≡ typed_of q r
   typed_more =
       rw (more_printed, ap (λ (l : List ℕ). ends_printed Letters l) e ∙ ends_append printed ends_printed bytes_of case_at printed_walk Letters (signals_of p r) ws)
 
-  module _ (write : Bool) (room₀ room after : List ℕ) (t : Typed) where
-    -- put behind the text before them, the signals give the text after them
-    pub put_on : room ≡ wrote_in write (text_of p r) room₀ → Types ws (typed_of p r) write room t after →
-        (t ≡ typed_of q r) × (after ≡ wrote_in write (text_of q r) room₀)
-    put_on a b = (b.0 ∙ typed_more, rw a at b.1 ∙ by write)
-      where
-        by : (v : Bool) →
-            (if v then sets (wrote_in v (text_of p r) room₀) (length (text_of p r)) (printed (ends_printed Letters (signals_of p r)) ws) else wrote_in v (text_of p r) room₀)
-            ≡ wrote_in v (text_of q r) room₀
-        by true =
-            ap (λ (n : ℕ). sets (sets room₀ 0 (text_of p r)) n (printed (ends_printed Letters (signals_of p r)) ws)) (sym (zero-add (length (text_of p r))))
-            ∙ sets_append room₀ 0 (text_of p r) (printed (ends_printed Letters (signals_of p r)) ws)
-            ∙ ap (λ (l : List ℕ). sets room₀ 0 l) (sym (text_more p q r ws e))
-        by false = refl
+  -- put behind the text before them, the signals give the text after them
+  pub put_on : (room₀ room after : List ℕ) (t : Typed) → room ≡ wrote_in (text_of p r) room₀ → Types ws (typed_of p r) room t after →
+      (t ≡ typed_of q r) × (after ≡ wrote_in (text_of q r) room₀)
+  put_on room₀ room after t a b = (
+    b.0 ∙ typed_more,
+    rw a at b.1
+        ∙ ap (λ (n : ℕ). sets (sets room₀ 0 (text_of p r)) n (printed (ends_printed Letters (signals_of p r)) ws)) (sym (zero-add (length (text_of p r))))
+        ∙ sets_append room₀ 0 (text_of p r) (printed (ends_printed Letters (signals_of p r)) ws)
+        ∙ ap (λ (l : List ℕ). sets room₀ 0 l) (sym (text_more p q r ws e)),
+  )
 
 -- where nothing is put the text and the room stay
 module _ (p q : Passage) (r : Role) (e : signals_of q r ≡ signals_of p r ++ []) where
@@ -84,5 +70,5 @@ module _ (p q : Passage) (r : Role) (e : signals_of q r ≡ signals_of p r ++ []
   pub typed_same : typed_of p r ≡ typed_of q r
   typed_same = rw same
 
-  pub room_same : (write : Bool) (room₀ room : List ℕ) → room ≡ wrote_in write (text_of p r) room₀ → room ≡ wrote_in write (text_of q r) room₀
-  room_same write room₀ room a = a ∙ rw same
+  pub room_same : (room₀ room : List ℕ) → room ≡ wrote_in (text_of p r) room₀ → room ≡ wrote_in (text_of q r) room₀
+  room_same room₀ room a = a ∙ rw same

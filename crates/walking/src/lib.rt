@@ -1,128 +1,100 @@
-// The walk over a record (02, T-07): two fresh stations are run over its entries, one by one, and what each prints is counted, or written
-// into its room. The call is `passing::passage`.
+// The walk over a record (02, T-07): two fresh stations are run over its entries, one by one, and what each prints is written into its room
+// as far as that reaches. Rooms of no bytes make a judge of it, which only counts. The call is `passing::passage`.
 #![tactic(auto)]
 
-ghost use Rattle.std.specs.Prelude.{◌≡◌, length};
+ghost use Rattle.std.specs.Prelude.{◌≡◌};
 ghost use Rattle.entries.specs.Passage.{begins};
-ghost use Rattle.entries.specs.Passing.{outcome_from};
-ghost use Rattle.walking.specs.Walk.{walk_of, MayTell, Tells, Looks, MayWrite, Walks};
+ghost use Rattle.walking.specs.Walk.{walk_of, MayTell, Tells, Judges, Looks, Walks};
 
-use entries::{Entry, Passed, Read};
+use entries::{Entry, PassError, Printed, Reader, Standing};
 use mode_a::Role;
 use replay::State;
 use signals::Case;
 use telling::Fault;
 use typing::Typed;
 
-// A walk between two entries: the place of the next, the two stations, and what each has printed.
+// A walk between two entries: the two stations, and what each has printed.
 #[derive(Clone, Copy)]
 struct Walk {
-    at: usize,
     state: State,
     master: Typed,
     slave: Typed,
 }
 
 // Before the first entry.
-fn begin(at: usize) -> Walk
-    ensures { result ≡ walk_of begins at }
+#[tactic(auto, unfolding(text::specs::Printing::printed, text::specs::Printing::ends_printed, runs::specs::Circuit::after))]
+fn begin() -> Walk
+    ensures { result ≡ walk_of begins }
 {
+    let none = Typed {
+        to: 0,
+        case: Case::Letters,
+    };
     Walk {
-        at: at,
         state: replay::fresh(),
-        master: Typed {
-            to: 0,
-            case: Case::Letters,
-        },
-        slave: Typed {
-            to: 0,
-            case: Case::Letters,
-        },
+        master: none,
+        slave: none,
     }
 }
 
-// Tells an entry without a fault, behind which `next` is.
-fn tell(
-    walk: Walk,
-    entry: Entry,
-    next: usize,
-    master: &mut [u8],
-    slave: &mut [u8],
-    write: bool,
-) -> Walk
-    requires { MayTell walk entry write (length master.old) (length slave.old) }
-    ensures { Tells walk entry next write master.old slave.old result master.new slave.new }
+// Tells an entry without a fault.
+fn tell(walk: Walk, entry: Entry, master: &mut [u8], slave: &mut [u8]) -> Walk
+    requires { MayTell walk }
+    ensures { Tells walk entry master.old slave.old result master.new slave.new }
 {
-    let before = walk.state;
-    let by_master = walk.master;
-    let by_slave = walk.slave;
-    let gone = replay::goes(before, entry);
-    let state = gone.state;
-    let by = gone.by;
-    let words = gone.printed;
-    match by {
+    let gone = replay::goes(walk.state, entry);
+    let after = Walk {
+        state: gone.state,
+        ..walk
+    };
+    match gone.by {
         Role::Master => Walk {
-            at: next,
-            state: state,
-            master: typing::put(words, by_master, master, write),
-            slave: by_slave,
+            master: typing::put(gone.printed, walk.master, master),
+            ..after
         },
         Role::Slave => Walk {
-            at: next,
-            state: state,
-            master: by_master,
-            slave: typing::put(words, by_slave, slave, write),
+            slave: typing::put(gone.printed, walk.slave, slave),
+            ..after
         },
     }
 }
 
-// What the place of a walk calls for: to tell the entry, behind which the other place is; or to answer.
-#[derive(Clone, Copy)]
-enum Look {
-    Tell(Entry, usize),
-    Answer(Passed),
+// Judges an entry, whose kind stands at `at`.
+fn judge(standing: Standing, entry: Entry, at: usize) -> Result<(), PassError>
+    ensures { Judges standing entry at result }
+{
+    telling::fault_of(standing, entry).map_err(|fault| match fault {
+        Fault::BadBurst => PassError::BadBurst(at),
+        Fault::StillOffered => PassError::StillOffered(at),
+        Fault::BadWord => PassError::BadWord(at),
+    })
 }
 
-// Reads the entry at the walk's place, and judges it.
-fn look_at(bytes: &[u8], walk: Walk) -> Look
-    ensures { Looks bytes.now walk result }
+// Reads the next entry, and judges it; or nothing, where the record ends.
+fn look_at(reader: &mut Reader<'_>, standing: Standing) -> Result<Option<Entry>, PassError>
+    ensures { Looks reader.old.bytes.now reader.old.at standing result reader.new.bytes.now reader.new.at }
 {
-    let at = walk.at;
-    match entries::entry_at(bytes, at) {
-        Read::Entry(entry, next) => {
-            let state = walk.state;
-            let standing = state.standing;
-            match telling::fault_of(standing, entry) {
-                Fault::None => Look::Tell(entry, next),
-                Fault::BadBurst => Look::Answer(Passed::BadBurst(at)),
-                Fault::StillOffered => Look::Answer(Passed::StillOffered(at)),
-                Fault::BadWord => Look::Answer(Passed::BadWord(at)),
-            }
-        }
-        Read::Nothing => {
-            let by_master = walk.master;
-            let by_slave = walk.slave;
-            Look::Answer(Passed::Printed {
-                master: by_master.to,
-                slave: by_slave.to,
-            })
-        }
-        Read::Unknown => Look::Answer(Passed::UnknownKind(at)),
-        Read::Short => Look::Answer(Passed::CutShort(at)),
-    }
+    let at = reader.at;
+    let Some(entry) = reader.next_entry()? else {
+        return Ok(None);
+    };
+    judge(standing, entry, at)?;
+    Ok(Some(entry))
 }
 
-// Runs two fresh stations over the entries from `from` on. Where `write` is false the rooms stay as they are; where it is true the record has
-// been judged before, and the rooms suffice.
-pub fn walked(bytes: &[u8], from: usize, master: &mut [u8], slave: &mut [u8], write: bool) -> Passed
-    requires { MayWrite write (outcome_from bytes.now from) (length master.old) (length slave.old) }
-    ensures { Walks write (outcome_from bytes.now from) master.old slave.old result master.new slave.new }
+// Runs two fresh stations over the entries from this place of a record on, up to the first that has a fault.
+// KEPT: the two rooms are two parameters, as makers lend them to `passing::passage`: a struct of both would be made there for each of the two
+// walks and be taken apart in `tell`. The loop counts no index, so it stays `while let` with `?`.
+pub fn walked(from: Reader<'_>, master: &mut [u8], slave: &mut [u8]) -> Result<Printed, PassError>
+    ensures { Walks from.entry.bytes.now from.entry.at master.old slave.old result master.new slave.new }
 {
-    let mut walk = begin(from);
-    loop {
-        match look_at(bytes, walk) {
-            Look::Tell(entry, next) => walk = tell(walk, entry, next, master, slave, write),
-            Look::Answer(answer) => return answer,
-        }
+    let mut reader = from;
+    let mut walk = begin();
+    while let Some(entry) = look_at(&mut reader, walk.state.standing)? {
+        walk = tell(walk, entry, master, slave);
     }
+    Ok(Printed {
+        master: walk.master.to,
+        slave: walk.slave.to,
+    })
 }

@@ -18,6 +18,7 @@ use mathlib.Core.Bool.{Bool, true, false, not, ◌&&◌, ◌||◌, and-false, an
 use mathlib.Core.List.{List, [], ◌∷◌, ◌++◌}
 use Prim.Native.Nat.{ℕ}
 use borrow.Author.Tests.{not-true}
+use Rattle.std.specs.Prelude.{Ok}
 use Rattle.signals.specs.declared.Case.TheVariants.{Figures}
 use Rattle.signals.specs.Meaning.{meaning_of, traffic_of, word_no, letters, figures, beta, cs1, cs2, cs3}
 use Rattle.signals.specs.Numbers.{Answer, answered, refused, first_not}
@@ -33,7 +34,6 @@ use Rattle.mode_a.specs.declared.Place.TheVariants.{Sending, Turning, Opening, R
 use Rattle.mode_a.specs.declared.Offer.{Offer}
 use Rattle.mode_a.specs.declared.Station.{Station}
 use Rattle.mode_a.specs.declared.Reply.{Reply}
-use Rattle.mode_a.specs.declared.Coded.{Coded}
 use Rattle.mode_a.specs.Station.{words, single, silence, βαβ, RQ×3, asks_for, no_code, fresh_slave}
 use Rattle.mode_a.specs.Heard.{first_of, may_hold, is_block, is_words, heard_of}
 use Rattle.mode_a.specs.Over.{cross, query, who, listened, listened_all}
@@ -137,7 +137,7 @@ set = coded fresh_slave code
 abbrev pub code_plus : Code
 code_plus = code_of 2 (words figures cross 0) silence
 
-code_given : Codes fresh_slave code (Coded.With set)
+code_given : Codes fresh_slave code (Ok set)
 unfolding coding passes code_signals holds_neither first_not traffic_of meaning_of listened
 code_given = (refl, refl)
 
@@ -152,7 +152,7 @@ aaa = words (word_no 1) (word_no 1) (word_no 1)
 abbrev pub code_a : ℕ → Code
 code_a n = record { length = n; first = aaa; second = aaa; third = aaa; fourth = aaa; fifth = aaa; sixth = aaa; seventh = aaa }
 
-pub code_of_20_passes : (passes (code_a 20) ≡ true) × Codes fresh_slave (code_a 20) (Coded.With (coded fresh_slave (code_a 20)))
+pub code_of_20_passes : (passes (code_a 20) ≡ true) × Codes fresh_slave (code_a 20) (Ok (coded fresh_slave (code_a 20)))
 unfolding coding passes code_signals holds_neither first_not traffic_of meaning_of listened
 code_of_20_passes = (refl, (refl, refl))
 
@@ -175,7 +175,7 @@ busy k w =
       owed = w;
     }
 
-pub code_given_in_traffic : Codes (busy code_plus (Owed.Back 1)) code (Coded.With (busy code Owed.Nothing))
+pub code_given_in_traffic : Codes (busy code_plus (Owed.Back 1)) code (Ok (busy code Owed.Nothing))
 unfolding coding passes code_signals holds_neither first_not traffic_of meaning_of listened
 code_given_in_traffic = (refl, refl)
 

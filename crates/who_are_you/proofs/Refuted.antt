@@ -33,6 +33,7 @@ use native.Mathlib.Omega.{arith}
 use lib.Dec.{eqb}
 use lib.ListN.{length, length-append}
 use borrow.Author.Tests.{eqb-true}
+use Rattle.std.specs.Prelude.{Result, Ok, Err}
 use Rattle.signals.specs.declared.Case.{Case}
 use Rattle.signals.specs.declared.Case.TheVariants.{Letters, Figures}
 use Rattle.signals.specs.Meaning.{meaning_of, traffic_of, word_no, figures, beta, cs1, cs2, cs3}
@@ -48,8 +49,8 @@ use Rattle.mode_a.specs.declared.Place.TheVariants.{Opening, Asking, Lost}
 use Rattle.mode_a.specs.declared.Offer.{Offer}
 use Rattle.mode_a.specs.declared.Station.{Station}
 use Rattle.mode_a.specs.declared.Reply.{Reply}
-use Rattle.mode_a.specs.declared.Stepped.{Stepped}
-use Rattle.mode_a.specs.declared.Coded.{Coded}
+use Rattle.mode_a.specs.declared.Refused.{Refused}
+use Rattle.mode_a.specs.declared.Refusal.{Refusal}
 use Rattle.identity.specs.Table3.{is_identity}
 use Rattle.mode_a.specs.Station.{words, single, silence, no_code, fresh_slave, resting}
 use Rattle.mode_a.specs.Heard.{first_of, may_hold, is_block, is_words, heard_of}
@@ -73,64 +74,64 @@ number_in (answered r) = 0
 number_in (refused n v) = n
 
 -- a block with D in letters: CS2 is due
-pub no_answer_in_letters : (r : Reply) → r.sent ≡ single cs3 → Steps fresh_slave (words who beta beta) Offer.Nothing (Stepped.Done r) → ⊥
+pub no_answer_in_letters : (r : Reply) → r.sent ≡ single cs3 → Steps fresh_slave (words who beta beta) Offer.Nothing (Ok r) → ⊥
 unfolding stepping sound owed_exists passes code_signals holds_neither done first_not is_block may_hold traffic_of meaning_of heard_of first_of is_words listened traffic_in block_owed owed_then answer_of answer_keeping
 no_answer_in_letters r e p = true≢false (ap (begins cs3) (sym e ∙ ap sent_of p.0))
 
-pub no_shift_behind_d : (r : Reply) → r.sent ≡ single cs3 → Steps fresh_slave (words who figures beta) Offer.Nothing (Stepped.Done r) → ⊥
+pub no_shift_behind_d : (r : Reply) → r.sent ≡ single cs3 → Steps fresh_slave (words who figures beta) Offer.Nothing (Ok r) → ⊥
 unfolding stepping sound owed_exists passes code_signals holds_neither done first_not is_block may_hold traffic_of meaning_of heard_of first_of is_words listened traffic_in block_owed owed_then answer_of answer_keeping
 no_shift_behind_d r e p = true≢false (ap (begins cs3) (sym e ∙ ap sent_of p.0))
 
-pub no_answer_unaccepted : (r : Reply) → r.sent ≡ single cs3 → Steps fresh_slave (words figures who 0) Offer.Nothing (Stepped.Done r) → ⊥
+pub no_answer_unaccepted : (r : Reply) → r.sent ≡ single cs3 → Steps fresh_slave (words figures who 0) Offer.Nothing (Ok r) → ⊥
 unfolding stepping sound owed_exists passes code_signals holds_neither done first_not is_block may_hold traffic_of meaning_of heard_of first_of is_words listened traffic_in block_owed owed_then answer_of answer_keeping
 no_answer_unaccepted r e p = true≢false (ap (begins cs3) (sym e ∙ ap sent_of p.0))
 
 -- the operator offers an over at the block with D
-pub no_over_taken_at_who : (r : Reply) → r.taken ≡ true → Steps fresh_slave question Offer.Over (Stepped.Done r) → ⊥
+pub no_over_taken_at_who : (r : Reply) → r.taken ≡ true → Steps fresh_slave question Offer.Over (Ok r) → ⊥
 unfolding stepping sound owed_exists passes code_signals holds_neither done first_not is_block may_hold traffic_of meaning_of heard_of first_of is_words listened traffic_in block_owed owed_then answer_of answer_keeping
 no_over_taken_at_who r e p = true≢false (sym e ∙ ap is_taken p.0)
 
-pub no_question_dropped_by_over_offered : (r : Reply) → r.station.owed ≡ Owed.Nothing → Steps fresh_slave question Offer.Over (Stepped.Done r) → ⊥
+pub no_question_dropped_by_over_offered : (r : Reply) → r.station.owed ≡ Owed.Nothing → Steps fresh_slave question Offer.Over (Ok r) → ⊥
 unfolding stepping sound owed_exists passes code_signals holds_neither done first_not is_block may_hold traffic_of meaning_of heard_of first_of is_words listened traffic_in block_owed owed_then answer_of answer_keeping
 no_question_dropped_by_over_offered r e p = true≢false (ap (λ (s : Station). is_owed s.owed) (sym p.1) ∙ ap is_owed e)
 
 -- the first block of an answer, or end in its place
-pub no_answer_block_reported : (r : Reply) → r.taken ≡ true → Steps (at code Opening (Owed.Back 0)) (single cs1) (Offer.Text tea) (Stepped.Done r) → ⊥
+pub no_answer_block_reported : (r : Reply) → r.taken ≡ true → Steps (at code Opening (Owed.Back 0)) (single cs1) (Offer.Text tea) (Ok r) → ⊥
 unfolding stepping sound owed_exists passes code_signals holds_neither done first_not is_block may_hold traffic_of meaning_of heard_of first_of is_words listened traffic_in block_owed owed_then answer_of answer_keeping
 no_answer_block_reported r e p = true≢false (sym e ∙ ap is_taken p.0)
 
-pub no_end_before_the_answer : (r : Reply) → r.taken ≡ true → Steps (at code Opening (Owed.Back 0)) (single cs1) Offer.End (Stepped.Done r) → ⊥
+pub no_end_before_the_answer : (r : Reply) → r.taken ≡ true → Steps (at code Opening (Owed.Back 0)) (single cs1) Offer.End (Ok r) → ⊥
 unfolding stepping sound owed_exists passes code_signals holds_neither done first_not is_block may_hold traffic_of meaning_of heard_of first_of is_words listened traffic_in block_owed owed_then answer_of answer_keeping
 no_end_before_the_answer r e p = true≢false (sym e ∙ ap is_taken p.0)
 
-pub no_owed_after_cs3 : (r : Reply) → is_owed r.station.owed ≡ true → Steps (at no_code (holding One βββ) (Owed.Back 1)) (single cs3) Offer.Nothing (Stepped.Done r) → ⊥
+pub no_owed_after_cs3 : (r : Reply) → is_owed r.station.owed ≡ true → Steps (at no_code (holding One βββ) (Owed.Back 1)) (single cs3) Offer.Nothing (Ok r) → ⊥
 unfolding stepping sound owed_exists passes code_signals holds_neither done first_not is_block may_hold traffic_of meaning_of heard_of first_of is_words listened traffic_in block_owed owed_then answer_of answer_keeping
 no_owed_after_cs3 r e p = true≢false (sym e ∙ ap (λ (s : Station). is_owed s.owed) p.1)
 
 -- Two steps with nothing offered: the second is one of the station that the first hands back, t.
-module _ (s t : Station) (b b' : Words) (r r' : Reply) (p : Steps s b Offer.Nothing (Stepped.Done r)) (i : next s (record { burst = b; offer = Offer.Nothing }) ≡ t) (q : Steps r.station b' Offer.Nothing (Stepped.Done r')) where
+module _ (s t : Station) (b b' : Words) (r r' : Reply) (p : Steps s b Offer.Nothing (Ok r)) (i : next s (record { burst = b; offer = Offer.Nothing }) ≡ t) (q : Steps r.station b' Offer.Nothing (Ok r')) where
   sent_second : r'.sent ≡ sent_of (stepping t b' Offer.Nothing)
   sent_second = ap sent_of (q.0 ∙ ap (λ (u : Station). stepping u b' Offer.Nothing) (p.1 ∙ i))
 
 -- the empty code: the first βββ, and what is sent behind it
-pub no_one_beta_block : (r r' : Reply) → Steps (at no_code Opening (Owed.Back 0)) (single cs1) Offer.Nothing (Stepped.Done r) → Steps r.station (single cs2) Offer.Nothing (Stepped.Done r') → r'.sent ≡ figures+? → ⊥
+pub no_one_beta_block : (r r' : Reply) → Steps (at no_code Opening (Owed.Back 0)) (single cs1) Offer.Nothing (Ok r) → Steps r.station (single cs2) Offer.Nothing (Ok r') → r'.sent ≡ figures+? → ⊥
 unfolding stepping sound owed_exists passes code_signals holds_neither done first_not is_block may_hold traffic_of meaning_of heard_of first_of is_words listened traffic_in block_owed owed_then answer_of answer_keeping
 no_one_beta_block r r' p q e =
     true≢false (ap (begins figures) (sym e ∙ sent_second (at no_code Opening (Owed.Back 0)) (at no_code (holding One βββ) (Owed.Back 1)) (single cs1) (single cs2) r r' p refl q))
 
 -- the second βββ, and what is sent behind it: the over where the direction is to be turned back, what is offered where it is kept
-pub no_over_left_out : (r r' : Reply) → Steps (at no_code (holding One βββ) (Owed.Back 1)) (single cs2) Offer.Nothing (Stepped.Done r) → Steps r.station (single cs1) Offer.Nothing (Stepped.Done r') → r'.sent ≡ βββ → ⊥
+pub no_over_left_out : (r r' : Reply) → Steps (at no_code (holding One βββ) (Owed.Back 1)) (single cs2) Offer.Nothing (Ok r) → Steps r.station (single cs1) Offer.Nothing (Ok r') → r'.sent ≡ βββ → ⊥
 unfolding stepping sound owed_exists passes code_signals holds_neither done first_not is_block may_hold traffic_of meaning_of heard_of first_of is_words listened traffic_in block_owed owed_then answer_of answer_keeping
 no_over_left_out r r' p q e =
     true≢false (ap (begins beta) (sym e ∙ sent_second (at no_code (holding One βββ) (Owed.Back 1)) (at no_code (holding Two βββ) (Owed.Back 2)) (single cs2) (single cs1) r r' p refl q))
 
-pub no_over_though_kept : (r r' : Reply) → Steps (at no_code (holding One βββ) (Owed.Keep 1)) (single cs2) Offer.Nothing (Stepped.Done r) → Steps r.station (single cs1) Offer.Nothing (Stepped.Done r') → r'.sent ≡ figures+? → ⊥
+pub no_over_though_kept : (r r' : Reply) → Steps (at no_code (holding One βββ) (Owed.Keep 1)) (single cs2) Offer.Nothing (Ok r) → Steps r.station (single cs1) Offer.Nothing (Ok r') → r'.sent ≡ figures+? → ⊥
 unfolding stepping sound owed_exists passes code_signals holds_neither done first_not is_block may_hold traffic_of meaning_of heard_of first_of is_words listened traffic_in block_owed owed_then answer_of answer_keeping
 no_over_though_kept r r' p q e =
     true≢false (ap (begins figures) (sym e ∙ sent_second (at no_code (holding One βββ) (Owed.Keep 1)) (at no_code (holding Two βββ) Owed.Nothing) (single cs2) (single cs1) r r' p refl q))
 
 -- Runs of whatever keeps the promise go where the definition goes.
-module _ (step : Station → Words → Offer → Stepped) (kept : (s : Station) (b : Words) (o : Offer) → Steps s b o (step s b o)) where
+module _ (step : Station → Words → Offer → Result Reply Refused) (kept : (s : Station) (b : Words) (o : Offer) → Steps s b o (step s b o)) where
   abbrev led : Station → Run → Station
   led s start = s
   led s (run ▷ e) = handed_back (step (led s run) e.burst e.offer)
@@ -146,12 +147,12 @@ module _ (step : Station → Words → Offer → Stepped) (kept : (s : Station) 
       true≢false (sym e ∙ ap (λ (s : Station). is_owed (led s asked_five).owed) (leads set (start ▷ hears (words figures who who))) ∙ ap (λ (s : Station). is_owed s.owed) (leads (at code Asking (Owed.Back 0)) asked_five ∙ five_blocks.after_is))
 
 -- the answer of the empty code has three blocks
-pub no_owed_past_the_last : (r : Reply) → Steps (at no_code Opening (Owed.Back 3)) (single cs1) Offer.Nothing (Stepped.Done r) → ⊥
+pub no_owed_past_the_last : (r : Reply) → Steps (at no_code Opening (Owed.Back 3)) (single cs1) Offer.Nothing (Ok r) → ⊥
 unfolding stepping sound owed_exists passes code_signals holds_neither first_not may_hold traffic_of meaning_of listened answer_of answer_keeping
 no_owed_past_the_last r p = let z : ◌≡◌ {A = ℕ} 0 4 = ap number_in p.0 in omega arith
 
 -- the answer of the code of five signals has four blocks where the direction is kept, and five where it is turned back
-pub no_keep_past_the_last : (r : Reply) → Steps (at code Opening (Owed.Keep 4)) (single cs1) Offer.Nothing (Stepped.Done r) → ⊥
+pub no_keep_past_the_last : (r : Reply) → Steps (at code Opening (Owed.Keep 4)) (single cs1) Offer.Nothing (Ok r) → ⊥
 unfolding stepping sound owed_exists passes code_signals holds_neither first_not may_hold traffic_of meaning_of listened answer_of answer_keeping
 no_keep_past_the_last r p = let z : ◌≡◌ {A = ℕ} 0 4 = ap number_in p.0 in omega arith
 
@@ -160,27 +161,27 @@ abbrev given_in : Answer Station → ℕ
 given_in (answered s) = 0
 given_in (refused n v) = n
 
-pub no_code_of_21 : (s : Station) → Codes fresh_slave (code_a 21) (Coded.With s) → ⊥
+pub no_code_of_21 : (s : Station) → Codes fresh_slave (code_a 21) (Ok s) → ⊥
 unfolding coding passes code_signals holds_neither first_not traffic_of meaning_of listened
 no_code_of_21 s p = let z : ◌≡◌ {A = ℕ} 0 9 = ap given_in p.0 in omega arith
 
-pub no_code_with_beta : (s : Station) → Codes fresh_slave (code_of 3 (words (word_no 1) beta (word_no 1)) silence) (Coded.With s) → ⊥
+pub no_code_with_beta : (s : Station) → Codes fresh_slave (code_of 3 (words (word_no 1) beta (word_no 1)) silence) (Ok s) → ⊥
 unfolding coding passes code_signals holds_neither first_not traffic_of meaning_of listened
 no_code_with_beta s p = let z : ◌≡◌ {A = ℕ} 0 9 = ap given_in p.0 in omega arith
 
-pub no_code_with_d_first : (s : Station) → Codes fresh_slave (code_of 1 (words who 0 0) silence) (Coded.With s) → ⊥
+pub no_code_with_d_first : (s : Station) → Codes fresh_slave (code_of 1 (words who 0 0) silence) (Ok s) → ⊥
 unfolding coding passes code_signals holds_neither first_not traffic_of meaning_of listened
 no_code_with_d_first s p = let z : ◌≡◌ {A = ℕ} 0 9 = ap given_in p.0 in omega arith
 
-pub no_code_ending_in_over : (s : Station) → Codes fresh_slave (code_of 3 figures+? silence) (Coded.With s) → ⊥
+pub no_code_ending_in_over : (s : Station) → Codes fresh_slave (code_of 3 figures+? silence) (Ok s) → ⊥
 unfolding coding passes code_signals holds_neither first_not traffic_of meaning_of listened
 no_code_ending_in_over s p = let z : ◌≡◌ {A = ℕ} 0 9 = ap given_in p.0 in omega arith
 
 -- a code given to a station that owes, and has a count
-pub no_old_answer_still_owed : (s : Station) → is_owed s.owed ≡ true → Codes (busy code_plus (Owed.Back 1)) code (Coded.With s) → ⊥
+pub no_old_answer_still_owed : (s : Station) → is_owed s.owed ≡ true → Codes (busy code_plus (Owed.Back 1)) code (Ok s) → ⊥
 no_old_answer_still_owed s e p = true≢false (sym e ∙ ap (λ (t : Station). is_owed t.owed) (p.1 ∙ sym code_given_in_traffic.1))
 
-pub no_code_that_restarts : (s : Station) → s.count ≡ 0 → Codes (busy code_plus (Owed.Back 1)) code (Coded.With s) → ⊥
+pub no_code_that_restarts : (s : Station) → s.count ≡ 0 → Codes (busy code_plus (Owed.Back 1)) code (Ok s) → ⊥
 no_code_that_restarts s e p =
     let z : ◌≡◌ {A = ℕ} 0 5 = sym e ∙ ap (λ (t : Station). t.count) (p.1 ∙ sym code_given_in_traffic.1) in omega arith
 
@@ -192,23 +193,23 @@ bad_at p n =
 abbrev bad : ℕ → Station
 bad n = bad_at Asking n
 
-pub no_code_unjudged_at_standby : (r : Reply) → Steps (bad_at (resting 0) 0) silence Offer.Nothing (Stepped.Done r) → ⊥
+pub no_code_unjudged_at_standby : (r : Reply) → Steps (bad_at (resting 0) 0) silence Offer.Nothing (Ok r) → ⊥
 unfolding stepping sound owed_exists passes code_signals holds_neither first_not may_hold traffic_of meaning_of listened answer_of answer_keeping
 no_code_unjudged_at_standby r p = let z : ◌≡◌ {A = ℕ} 0 9 = ap number_in p.0 in omega arith
 
-pub no_code_unjudged_when_lost : (r : Reply) → Steps (bad_at Lost 0) silence Offer.Nothing (Stepped.Done r) → ⊥
+pub no_code_unjudged_when_lost : (r : Reply) → Steps (bad_at Lost 0) silence Offer.Nothing (Ok r) → ⊥
 unfolding stepping sound owed_exists passes code_signals holds_neither first_not may_hold traffic_of meaning_of listened answer_of answer_keeping
 no_code_unjudged_when_lost r p = let z : ◌≡◌ {A = ℕ} 0 9 = ap number_in p.0 in omega arith
 
-pub no_order_9_4 : (s : Station) → Steps (bad 32) silence Offer.Nothing (Stepped.BadCode s) → ⊥
+pub no_order_9_4 : (s : Station) → Steps (bad 32) silence Offer.Nothing (Err (record { station = s; why = Refusal.BadCode })) → ⊥
 unfolding stepping sound owed_exists passes code_signals holds_neither first_not may_hold traffic_of meaning_of listened answer_of answer_keeping
 no_order_9_4 s p = let z : ◌≡◌ {A = ℕ} 9 4 = ap number_in p.0 in omega arith
 
-pub no_order_9_8 : (s : Station) → Steps (bad 0) silence (Offer.Call (record { 0 = 0; 1 = 0; 2 = 0; 3 = 0 })) (Stepped.BadCode s) → ⊥
+pub no_order_9_8 : (s : Station) → Steps (bad 0) silence (Offer.Call (record { 0 = 0; 1 = 0; 2 = 0; 3 = 0 })) (Err (record { station = s; why = Refusal.BadCode })) → ⊥
 unfolding stepping is_identity first_not
 no_order_9_8 s p = let z : ◌≡◌ {A = ℕ} 9 8 = ap number_in p.0 in omega arith
 
-pub no_order_3_9 : (s : Station) → Steps (bad 0) silence (Offer.Text silence) (Stepped.BadWord 0 s) → ⊥
+pub no_order_3_9 : (s : Station) → Steps (bad 0) silence (Offer.Text silence) (Err (record { station = s; why = Refusal.BadWord 0 })) → ⊥
 unfolding stepping sound owed_exists passes code_signals holds_neither first_not may_hold traffic_of meaning_of listened answer_of answer_keeping
 no_order_3_9 s p = let z : ◌≡◌ {A = ℕ} 3 9 = ap number_in p.0 in omega arith
 

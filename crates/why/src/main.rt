@@ -2,47 +2,41 @@
 #![tactic(auto)]
 
 use filters::Stream;
+use numbers::Line;
 use std::process::ExitCode;
 
-fn answer(stream: Stream, output: &mut [u8], record: &[u8; 84]) -> Stream {
+fn answer(stream: &mut Stream, record: &[u8; 84]) {
     let why = help_desk::why(
         written::station_of(record),
         written::burst_of(record),
         written::offer_of(record),
     );
     // no line comes to be full
-    let mut line = [0u8; 32];
-    let mut at = written::put_why(&mut line, 0, why);
-    at = numbers::put(&mut line, at, 10);
-    stream.put_line(output, &line, at)
+    let mut room = [0u8; 32];
+    let mut line = Line::new(&mut room);
+    written::put_why(&mut line, why);
+    stream.put_line(line);
 }
 
-// The next record read and answered: the first 17 bytes of a record of `steps`, of which the others are 0. The base has eight places and
-// four offers. A short last record is ignored.
-fn turn(stream: Stream, input: &mut [u8], output: &mut [u8]) -> Stream {
+// What is read are the first 17 bytes of a record of `steps`, of which the others are 0. The base has eight places and four offers. A
+// short last record is ignored.
+fn run(rt: HostRuntime) -> Result<(), ExitCode> {
+    filters::no_words(rt, b"why")?;
+    let mut input = [0u8; 4096];
+    let mut output = [0u8; 4096];
+    let mut stream = Stream::new(rt, &mut input, &mut output);
     let mut record = [0u8; 84];
-    let read = stream.record(input, output, &mut record, 17);
-    let after = read.stream;
-    if read.count != 17 {
-        return after;
+    for _ in 0..u64::MAX {
+        if stream.record(&mut record[..17]) != 17 {
+            break;
+        }
+        record[1] %= 8;
+        record[13] %= 4;
+        answer(&mut stream, &record);
     }
-    record[1] = record[1] % 8;
-    record[13] = record[13] % 4;
-    answer(after, output, &record)
+    stream.finish(b"why")
 }
 
 fn main(rt: HostRuntime) -> ExitCode {
-    if filters::has_words(rt, b"why") {
-        return filters::not_run();
-    }
-    let mut input = [0u8; 4096];
-    let mut output = [0u8; 4096];
-    let mut stream = Stream::new(rt);
-    for _ in 0..u64::MAX {
-        if stream.state != filters::GOING {
-            return filters::status(stream.finish(&output, b"why"));
-        }
-        stream = turn(stream, &mut input, &mut output);
-    }
-    ExitCode::SUCCESS
+    filters::status(run(rt))
 }

@@ -1,26 +1,29 @@
 // What the programs share of stations that are written out, in a record of `steps` of 84 bytes, and of the lines that name a reason
-// (docs/FORMATS.md). As in `numbers`, what puts answers the place past what it put, and a full line takes no more.
+// (docs/FORMATS.md). As in `numbers`, a full line takes no more.
 #![tactic(auto)]
 
 use identity::Seven;
 use mode_a::{
     Called, Called3, Code, Ended, Gathered, Held, Identified, Identity, Mark, Number, Offer, Owed,
-    Own, Peer, Place, Role, Stage, Station, Succession, Waiting, Words,
+    Own, Peer, Place, Refusal, Role, Stage, Station, Succession, Waiting, Words,
 };
-use reasons::{Reason, Star, Why};
+use numbers::Line;
+use reasons::{Reason, Star};
 
 fn role_of(byte: u8) -> Role {
     if byte % 2 == 0 {
-        return Role::Master;
+        Role::Master
+    } else {
+        Role::Slave
     }
-    Role::Slave
 }
 
 fn number_of(byte: u8) -> Number {
     if byte % 2 == 0 {
-        return Number::Two;
+        Number::Two
+    } else {
+        Number::One
     }
-    Number::One
 }
 
 fn mark_of(byte: u8) -> Mark {
@@ -61,13 +64,13 @@ fn place_of(record: &[u8; 84]) -> Place {
     let number = number_of(record[2]);
     match record[1] % 12 {
         0 => Place::Sending(Held {
-            number: number,
+            number,
             block: Words(record[3], record[4], record[5]),
         }),
         1 => Place::Turning(number),
         2 => Place::Opening,
         3 => Place::Ending(Ended {
-            number: number,
+            number,
             total: record[6],
         }),
         4 => Place::Receiving(number),
@@ -171,68 +174,66 @@ pub fn burst_of(record: &[u8; 84]) -> Words {
     Words(record[10], record[11], record[12])
 }
 
-fn put_reason(line: &mut [u8], at: usize, reason: Reason) -> usize {
+fn put_reason(line: &mut Line, reason: Reason) {
     match reason {
-        Reason::Silent => numbers::put_all(line, at, b"silent"),
-        Reason::TimeOut => numbers::put_all(line, at, b"time-out"),
-        Reason::RunOut => numbers::put_all(line, at, b"run-out"),
-        Reason::Called => numbers::put_all(line, at, b"called"),
-        Reason::CallOffered => numbers::put_all(line, at, b"call-offered"),
-        Reason::Own => numbers::put_all(line, at, b"own"),
-        Reason::Other => numbers::put_all(line, at, b"other"),
-        Reason::Either => numbers::put_all(line, at, b"either"),
-        Reason::Cs1 => numbers::put_all(line, at, b"cs1"),
-        Reason::Cs3 => numbers::put_all(line, at, b"cs3"),
-        Reason::Cs4 => numbers::put_all(line, at, b"cs4"),
-        Reason::Cs5 => numbers::put_all(line, at, b"cs5"),
-        Reason::Rq => numbers::put_all(line, at, b"rq"),
-        Reason::Turn => numbers::put_all(line, at, b"turn"),
-        Reason::Alphas => numbers::put_all(line, at, b"alphas"),
-        Reason::RightSum => numbers::put_all(line, at, b"right-sum"),
-        Reason::WrongSum => numbers::put_all(line, at, b"wrong-sum"),
-        Reason::Told => numbers::put_all(line, at, b"told"),
-        Reason::ToldAgain => numbers::put_all(line, at, b"told-again"),
+        Reason::Silent => line.put_all(b"silent"),
+        Reason::TimeOut => line.put_all(b"time-out"),
+        Reason::RunOut => line.put_all(b"run-out"),
+        Reason::Called => line.put_all(b"called"),
+        Reason::CallOffered => line.put_all(b"call-offered"),
+        Reason::Own => line.put_all(b"own"),
+        Reason::Other => line.put_all(b"other"),
+        Reason::Either => line.put_all(b"either"),
+        Reason::Cs1 => line.put_all(b"cs1"),
+        Reason::Cs3 => line.put_all(b"cs3"),
+        Reason::Cs4 => line.put_all(b"cs4"),
+        Reason::Cs5 => line.put_all(b"cs5"),
+        Reason::Rq => line.put_all(b"rq"),
+        Reason::Turn => line.put_all(b"turn"),
+        Reason::Alphas => line.put_all(b"alphas"),
+        Reason::RightSum => line.put_all(b"right-sum"),
+        Reason::WrongSum => line.put_all(b"wrong-sum"),
+        Reason::Told => line.put_all(b"told"),
+        Reason::ToldAgain => line.put_all(b"told-again"),
         Reason::Bad(index, word) => {
-            let place = numbers::put_all(line, at, b"bad ");
-            let to = filters::put_decimal(line, place, index as u64);
-            fields::put_number(line, to, word)
+            line.put_all(b"bad ");
+            filters::put_decimal(line, index as u64);
+            fields::put_number(line, word);
         }
         Reason::Repeat(index) => {
-            let place = numbers::put_all(line, at, b"repeat ");
-            filters::put_decimal(line, place, index as u64)
+            line.put_all(b"repeat ");
+            filters::put_decimal(line, index as u64);
         }
-        Reason::Unexpected => numbers::put_all(line, at, b"unexpected"),
-        Reason::OverHeard => numbers::put_all(line, at, b"over-heard"),
-        Reason::WhoAreYou => numbers::put_all(line, at, b"who-are-you"),
-        Reason::OverOffered => numbers::put_all(line, at, b"over-offered"),
-        Reason::Accepted => numbers::put_all(line, at, b"accepted"),
+        Reason::Unexpected => line.put_all(b"unexpected"),
+        Reason::OverHeard => line.put_all(b"over-heard"),
+        Reason::WhoAreYou => line.put_all(b"who-are-you"),
+        Reason::OverOffered => line.put_all(b"over-offered"),
+        Reason::Accepted => line.put_all(b"accepted"),
     }
 }
 
 // The reason for an answer, or the refusal.
-pub fn put_why(line: &mut [u8], at: usize, why: Why) -> usize {
+pub fn put_why(line: &mut Line, why: Result<Reason, Refusal>) {
     match why {
-        Why::Because(reason) => put_reason(line, at, reason),
-        Why::BadStation => filters::put_refusal(line, at, 4, 0),
-        Why::BadCode => filters::put_refusal(line, at, 9, 0),
-        Why::BadWord(index) => filters::put_refusal(line, at, 3, index as u64),
-        Why::BadCall(index) => filters::put_refusal(line, at, 8, index as u64),
+        Ok(reason) => put_reason(line, reason),
+        Err(refusal) => {
+            let (number, value) = refusal.told();
+            filters::put_refusal(line, number, value as u64);
+        }
     }
 }
 
+fn put_copies(line: &mut Line, name: &[u8], dx: u8, rx: u8) {
+    line.put_all(name);
+    fields::put_number(line, dx);
+    fields::put_number(line, rx);
+}
+
 // The reason for an error mark, and the two words.
-pub fn put_star(line: &mut [u8], at: usize, star: Star) -> usize {
+pub fn put_star(line: &mut Line, star: Option<Star>) {
     match star {
-        Star::None => numbers::put_all(line, at, b"none"),
-        Star::BothBad(dx, rx) => {
-            let place = numbers::put_all(line, at, b"bad");
-            let to = fields::put_number(line, place, dx);
-            fields::put_number(line, to, rx)
-        }
-        Star::Unlike(dx, rx) => {
-            let place = numbers::put_all(line, at, b"unlike");
-            let to = fields::put_number(line, place, dx);
-            fields::put_number(line, to, rx)
-        }
+        None => line.put_all(b"none"),
+        Some(Star::BothBad(dx, rx)) => put_copies(line, b"bad", dx, rx),
+        Some(Star::Unlike(dx, rx)) => put_copies(line, b"unlike", dx, rx),
     }
 }

@@ -1,34 +1,33 @@
--- `answerback::is_plain` meets its contract: of each byte, what the code looks at is the definition, listed. Assumes nothing.
-use mathlib.Core.Bool.{Bool, false}
+-- `answerback::is_plain` meets its contract: of each byte, the bit that the code looks at is the definition, listed. Assumes nothing.
 use mathlib.Core.Path.{◌≡◌, refl}
-use Prim.Native.Nat.{ℕ, ◌+◌, ◌-◌, ◌/◌, ◌%◌, ◌^◌, ◌<◌, ◌≤◌}
-use native.Mathlib.Omega.{arith}
+use mathlib.Core.Bool.{Bool, false, ◌&&◌}
+use Prim.Native.Nat.{ℕ, ◌/◌, ◌%◌, ◌^◌, ◌<◌, ◌≤◌}
 use lib.Bits.{bit_and}
-use lib.Dec.{eqb}
+use lib.Dec.{eqb, ltb}
+use borrow.Author.Tests.{le-ltb}
+use Rattle.std.specs.Prelude.{if◌then◌else◌}
 use Rattle.laws.proofs.Table.{tab_from, same_table}
 use Rattle.signals.specs.Meaning.{meaning_of, traffic_of}
 use Rattle.answerback.specs.Judged.{is_plain}
 use Rattle.answerback.proofs.is_plain.Goals as goal
+use Rattle.answerback.proofs.is_plain.Goals.{then-word-lt64, else-word-lt64}
 
--- a word's bit in a half of the table
-abbrev bit_of : ℕ → ℕ → Bool
-bit_of half w = eqb (bit_and (half / 2 ^ (w % 64)) 1) 1
+-- a word below a bound whose bit is set in a half of the table
+abbrev bit : ℕ → ℕ → ℕ → Bool
+bit bound half x = ltb x bound && eqb (bit_and (half / 2 ^ (x % 64)) 1) 1
 
--- two rules with the same table of n places from m on agree there
-agree-from : (m n : ℕ) (f g : ℕ → Bool) → tab_from (λ k. f (m + k)) n 0 ≡ tab_from (λ k. g (m + k)) n 0 → (w : ℕ) → m ≤ w → w < m + n → f w ≡ g w
-agree-from m n f g e w low high =
-    let there : m + (w - m) ≡ w = omega arith in
-    rw there at (same_table (λ k. f (m + k)) (λ k. g (m + k)) n false e (w - m) (omega arith))
+-- from 64 on: a word below has the value that the definition has, so that one table says it of all bytes
+abbrev upper : ℕ → ℕ → ℕ → Bool
+upper bound half x = if ltb x 64 then is_plain x else bit bound half x
 
-pub returns-then-word-lt64 : goal.returns-then-word-lt64
-unfolding is_plain traffic_of meaning_of
-returns-then-word-lt64 c = agree-from 0 64 (bit_of _) is_plain refl c.args.word (omega arith) c.if-word-lt64.true
-
-pub returns-then-word-lt128 : goal.returns-then-word-lt128
-unfolding is_plain traffic_of meaning_of
-returns-then-word-lt128 c = agree-from 64 64 (bit_of _) is_plain refl c.args.word c.if-word-lt64.false c.if-word-lt128.true
+upper-bit : (bound half x : ℕ) → tab_from (upper bound half) 256 0 ≡ tab_from is_plain 256 0 →
+    x < 256 → 64 ≤ x → bit bound half x ≡ is_plain x
+upper-bit bound half x e byte h = rw (le-ltb x 64 h) at (same_table (upper bound half) is_plain 256 false e x byte)
 
 pub returns : goal.returns
 unfolding is_plain traffic_of meaning_of
 returns c =
-    agree-from 128 128 (λ _. false) is_plain refl c.args.word c.if-word-lt128.false c.ranges.word.fits
+    elim c.if-word-lt64.branch [
+      | then-word-lt64 w ↦ rw w.half-is (same_table (bit _ _) is_plain 64 false refl c.args.word w.if-word-lt64.true)
+      | else-word-lt64 w ↦ rw w.half-is (upper-bit _ _ c.args.word refl c.ranges.word.fits w.if-word-lt64.false)
+    ]

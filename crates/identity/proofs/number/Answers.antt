@@ -1,39 +1,30 @@
--- `identity::number` meets its contract: the code's array is table 3b, and a letter is never behind the search. Assumes nothing.
-use mathlib.Core.Path.{sym, ◌∙◌}
-use native.Mathlib.Omega.{arith}
-use borrow.Author.Tests.{not-true, not-false}
-use Rattle.identity.specs.Table3.{signal_of}
-use Rattle.identity.proofs.TableLaws.{no_letter, search_starts, search_in, search_on, search_hit}
+-- `identity::number` meets its contract: the code's array is table 3b, and of each byte its place there, or 0, is its number, listed.
+-- Assumes nothing.
+use mathlib.Core.Path.{◌≡◌, refl}
+use mathlib.Core.Bool.{cond}
+use Prim.Native.Nat.{ℕ}
+use lib.Dec.{eqb, ltb}
+use Rattle.std.proofs.Common.{rules}
+use borrow.Author.Tests.{tests}
+use Rattle.std.specs.Option.{unwrap_or}
+use Rattle.std.specs.declared.option.Option.TheVariants.{Some, None}
+use Rattle.std.specs.List.{position_or_len}
+use Rattle.std.proofs.lemmas.Iterator.{YieldsList-from_slice}
+use Rattle.std.proofs.lemmas.Iterator.Search.{position_from_yields_List}
+use Rattle.laws.proofs.Table.{same_table}
+use Rattle.identity.specs.Table3.{table3b, number_of}
 use Rattle.identity.proofs.number.Goals as goal
 
-pub returns-then-not-may_identify : goal.returns-then-not-may_identify
-returns-then-not-may_identify c =
-    let m = c.may_identify in
-    sym (no_letter c.args.word (sym m.ensures ∙ not-true m.result c.if-not-may_identify.true-raw))
+abbrev place : ℕ → ℕ
+place w = position_or_len (λ letter. eqb letter w) table3b
 
-pub loop-place-init : goal.loop-place-init
-loop-place-init c =
-    let m = c.may_identify in
-    search_starts c.args.word (sym m.ensures ∙ not-false m.result c.if-not-may_identify.false-raw)
-
-pub loop-place-preserved : goal.loop-place-preserved
-unfolding signal_of
-loop-place-preserved c =
-    search_on c.args.word c.loop-place.place c.loop-place.invariant c.loop-place-test.true
+abbrev found : ℕ → ℕ
+found w = unwrap_or (cond (ltb (place w) 20) (Some (place w)) None) 0
 
 pub returns : goal.returns
-unfolding signal_of
+unfolding number_of
 returns c =
-    search_hit c.args.word c.loop-place.place c.loop-place.invariant c.loop-place-test.false
-
-pub bounds-letters-place : goal.bounds-letters-place
-bounds-letters-place c = omega (arith, search_in _ _ c.loop-place.invariant)
-
-pub overflow_add-place : goal.overflow_add-place
-overflow_add-place c = omega (arith, search_in _ _ c.loop-place.invariant)
-
-pub loop-place-smaller : goal.loop-place-smaller
-loop-place-smaller c = omega (arith, search_in _ _ c.loop-place.invariant)
-
-pub overflow_cast-result : goal.overflow_cast-result
-overflow_cast-result c = omega (arith, search_in _ _ c.loop-place.invariant)
+    let at : c.position.result ≡ cond (ltb (place c.args.word) 20) (Some (place c.args.word)) None =
+    position_from_yields_List (λ letter. eqb letter c.args.word) _ _ c.position.result c.position.ensures.ran
+    (YieldsList-from_slice _ c.iter.ensures.rest) (λ x b q k. search (rules, tests)) in
+    rw (c.unwrap_or.ensures, at) (same_table found number_of 256 0 refl c.args.word c.ranges.word.fits)

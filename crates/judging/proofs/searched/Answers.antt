@@ -1,40 +1,17 @@
--- `judging::searched` meets its contract: what is passed may stand. Assumes nothing.
-use mathlib.Core.Path.{◌≡◌, sym, ◌∙◌}
-use native.Mathlib.Omega.{arith}
-use lib.ListN.{length, drop}
-use borrow.Author.Tests.{not-true, not-false}
+-- `judging::searched` meets its contract: the place is the one that the library finds. Assumes nothing.
+use mathlib.Core.Path.{◌≡◌}
+use mathlib.Core.Bool.{not}
+use Rattle.std.proofs.Common.{rules, tests}
+use Rattle.std.specs.List.{position}
+use Rattle.std.proofs.lemmas.Iterator.{YieldsList-from_slice}
+use Rattle.std.proofs.lemmas.Iterator.Search.{position_from_yields_List}
+use Rattle.signals.proofs.NumberLaws.{first_found}
 use Rattle.text.specs.Printing.{may_print}
-use Rattle.signals.specs.Numbers.{first_not}
-use Rattle.signals.proofs.NumberLaws.{first_next, first_here, first_end}
 use Rattle.judging.proofs.searched.Goals as goal
-
-pub loop-i-init : goal.loop-i-init
-loop-i-init c = (omega arith, omega arith)
-
-pub bounds-words-i : goal.bounds-words-i
-bounds-words-i c = omega arith
-
-pub returns-then-not-may_print : goal.returns-then-not-may_print
-returns-then-not-may_print c =
-    let l = c.loop-i in
-    let here = first_here may_print c.args.words.now l.i c.loop-i-test.true (sym c.may_print.ensures ∙ not-true _ c.if-not-may_print.true-raw) in
-    omega (arith, l.invariant.1)
-
-pub overflow_add-i : goal.overflow_add-i
-overflow_add-i c = omega arith
-
-pub loop-i-smaller : goal.loop-i-smaller
-loop-i-smaller c = omega arith
-
-pub loop-i-preserved : goal.loop-i-preserved
-loop-i-preserved c =
-    let l = c.loop-i in
-    let next = first_next may_print c.args.words.now l.i c.loop-i-test.true (sym c.may_print.ensures ∙ not-false _ c.if-not-may_print.false-raw) in
-    (omega arith, omega (arith, l.invariant.1))
 
 pub returns : goal.returns
 returns c =
-    let l = c.loop-i in
-    let e : l.i ≡ length c.args.words.now = omega (arith, l.invariant.0, c.loop-i-test.false) in
-    let last : first_not may_print (drop l.i c.args.words.now) ≡ 0 = rw e (first_end may_print c.args.words.now) in
-    omega (arith, l.invariant.1)
+    let words = c.args.words.now in
+    let found : c.position.result ≡ position (λ x. not (may_print x)) words = position_from_yields_List (λ x. not (may_print x)) _ _ c.position.result c.position.ensures.ran (YieldsList-from_slice _ c.iter.ensures.rest) (λ x b q k. search (rules, tests)) in
+    let first = first_found may_print words in
+    cc

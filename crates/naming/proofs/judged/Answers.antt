@@ -11,5 +11,5 @@ returns-then-bad-read c = is_bad _ _ c.requires _ (rw (c.intact.ensures, c.intac
 pub returns-then-rq-read : goal.returns-then-rq-read
 returns-then-rq-read c = is_rq_lem _ _ c.requires _ (rw (c.intact.ensures, c.intact-2.ensures, c.intact-3.ensures) at c.first_not-bad.ensures ∙ first_of_three intact_of _ _ _) c.if-bad-read.false _ (c.first_not-rq.ensures ∙ first_of_three not_rq _ _ _) c.if-rq-read.true
 
-pub returns : goal.returns
-returns c = is_neither _ _ c.requires _ (rw (c.intact.ensures, c.intact-2.ensures, c.intact-3.ensures) at c.first_not-bad.ensures ∙ first_of_three intact_of _ _ _) c.if-bad-read.false _ (c.first_not-rq.ensures ∙ first_of_three not_rq _ _ _) c.if-rq-read.false
+pub returns-else-rq-read : goal.returns-else-rq-read
+returns-else-rq-read c = is_neither _ _ c.requires _ (rw (c.intact.ensures, c.intact-2.ensures, c.intact-3.ensures) at c.first_not-bad.ensures ∙ first_of_three intact_of _ _ _) c.if-bad-read.false _ (c.first_not-rq.ensures ∙ first_of_three not_rq _ _ _) c.if-rq-read.false

@@ -1,6 +1,5 @@
 -- `owed::then` meets its contract. Assumes nothing.
 use borrow.Author.Tests.{lt-ltb, le-ltb}
-use Rattle.mode_a.specs.Answerback.{owed_then, answer_of}
 use Rattle.owed.proofs.BlockLaws.{then_back, then_keep}
 use Rattle.owed.proofs.then.Goals as goal
 
@@ -9,10 +8,6 @@ returns-then-index-filled c = rw (c.in-Back.is, then_back c.args.code _ c.filled
 
 pub returns-then-index-filled-2 : goal.returns-then-index-filled-2
 returns-then-index-filled-2 c = rw (c.in-Keep.is, then_keep c.args.code _ c.filled-in-Keep.ensures, lt-ltb _ _ c.if-index-filled-2.true)
-
-pub returns-in-Nothing : goal.returns-in-Nothing
-unfolding owed_then answer_of
-returns-in-Nothing c = rw c.in-Nothing.is
 
 pub returns-else-index-filled : goal.returns-else-index-filled
 returns-else-index-filled c = rw (c.in-Back.is, then_back c.args.code _ c.filled.ensures, le-ltb _ _ c.if-index-filled.false)

@@ -1,62 +1,30 @@
--- `printing::print` meets its contract: at each answer the law of that answer. Assumes nothing.
-use mathlib.Core.Path.{◌∙◌}
-use Prim.Native.Nat.{◌≤◌}
+-- `printing::print` meets its contract: where neither judging nor measuring refuses, what is written is the answer. Assumes nothing.
+use mathlib.Core.Path.{◌≡◌, refl, sym, ◌∙◌}
 use native.Mathlib.Nat.{zero-add}
 use native.Mathlib.Omega.{arith}
 use lib.ListN.{length}
 use Rattle.laws.proofs.Writes.{sets_over}
 use Rattle.signals.specs.Numbers.{first_not}
 use Rattle.text.specs.Printing.{may_print, printed, ends_printed}
-use Rattle.text.proofs.AnswerLaws.{too_long, bad_entry, no_room, all_written}
+use Rattle.text.proofs.AnswerLaws.{all_written}
 use Rattle.text.proofs.PrintingLaws.{printing_judged}
-use Rattle.judging.proofs.SizeLaws.{at_most}
 use Rattle.printing.proofs.print.Goals as goal
-use Rattle.printing.proofs.print.Goals.{then-short+else-room-need, else-short}
-
-pub returns-then-words-gt-MOST_SIGNALS : goal.returns-then-words-gt-MOST_SIGNALS
-returns-then-words-gt-MOST_SIGNALS c =
-    rw printing_judged
-    (too_long 8192 7 3 (length c.args.words.now) (first_not may_print c.args.words.now) c.args.room.now (record { bytes = printed c.args.case c.args.words.now; ends = ends_printed c.args.case c.args.words.now }) c.if-words-gt-MOST_SIGNALS.true)
-
-pub returns-then-bad-words : goal.returns-then-bad-words
-returns-then-bad-words c =
-    let bad = c.first_bad-bad in
-    rw printing_judged
-    (bad_entry 8192 7 3 (length c.args.words.now) (first_not may_print c.args.words.now) c.args.room.now (record { bytes = printed c.args.case c.args.words.now; ends = ends_printed c.args.case c.args.words.now }) c.if-words-gt-MOST_SIGNALS.false bad.result bad.ensures (omega (arith, bad.ensures, c.if-bad-words.true)))
-
-pub returns-then-room-need : goal.returns-then-room-need
-returns-then-room-need c =
-    let n = c.needed-need in
-    let all : length c.args.words.now ≤ first_not may_print c.args.words.now = omega (arith, c.first_bad-bad.ensures, c.if-bad-words.false) in
-    rw printing_judged
-    (no_room 8192 7 3 (length c.args.words.now) (first_not may_print c.args.words.now) c.args.room.now (record { bytes = printed c.args.case c.args.words.now; ends = ends_printed c.args.case c.args.words.now }) c.if-words-gt-MOST_SIGNALS.false all n.result (n.ensures.1 all c.args.case) c.if-room-need.true)
-
-pub write-end-requires : goal.write-end-requires
-write-end-requires c =
-    let all : length c.args.words.now ≤ first_not may_print c.args.words.now = omega (arith, c.first_bad-bad.ensures, c.if-bad-words.false) in (
-      all,
-      elim c.if-short.branch [
-        | then-short+else-room-need w ↦ omega (arith, w.needed-need.ensures.1 all c.args.case, w.if-room-need.false)
-        | else-short w ↦ omega (arith, w.if-short.false, at_most c.args.case c.args.words.now)
-      ],
-    )
 
 pub returns : goal.returns
 returns c =
+    let judged = c.in_ok-judged.judged in
+    let words = judged.words.now in
+    let same : c.args.words.now ≡ words = sym c.in_ok-judged.ensures.ok in
+    let case = c.args.case in
+    let room = c.args.room.now in
+    let fits = c.in_ok-measure.ensures.ok refl case in
     let w = c.write-end in
-    let all : length c.args.words.now ≤ first_not may_print c.args.words.now = omega (arith, c.first_bad-bad.ensures, c.if-bad-words.false) in
-    let fits : length (printed c.args.case c.args.words.now) ≤ length c.args.room.now =
-    elim c.if-short.branch [
-      | then-short+else-room-need w ↦ omega (arith, w.needed-need.ensures.1 all c.args.case, w.if-room-need.false)
-      | else-short w ↦ omega (arith, w.if-short.false, at_most c.args.case c.args.words.now)
-    ] in
-    rw printing_judged
-    (all_written 8192 7 3 (length c.args.words.now) (first_not may_print c.args.words.now) c.args.room.now (record { bytes = printed c.args.case c.args.words.now; ends = ends_printed c.args.case c.args.words.now }) c.if-words-gt-MOST_SIGNALS.false
-    all
+    rw (same, printing_judged)
+    (all_written 8192 7 3 (length words) (first_not may_print words) room (record { bytes = printed case words; ends = ends_printed case words }) judged.short judged.may
     w.result.to
     (w.ensures.wrote.ended ∙ zero-add _)
-    (omega (arith, w.ensures.wrote.ended))
+    (omega (arith, w.ensures.wrote.ended, fits))
     w.result.case
     w.ensures.ends
     w.new.room
-    (w.ensures.wrote.holds ∙ sets_over c.args.room.now (printed c.args.case c.args.words.now) fits))
+    (w.ensures.wrote.holds ∙ sets_over room (printed case words) fits))

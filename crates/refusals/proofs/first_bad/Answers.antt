@@ -1,23 +1,16 @@
 -- `refusals::first_bad` meets its contract. Assumes nothing.
-use borrow.Author.Tests.{not-true, not-false}
-use Rattle.signals.specs.Numbers.{first_not}
+use borrow.Author.Tests.{tests}
+use mathlib.Core.Bool.{not}
+use Rattle.std.proofs.Common.{rules}
+use Rattle.std.proofs.lemmas.Iterator.{YieldsList-from_slice}
+use Rattle.std.proofs.lemmas.Iterator.Search.{position_from_yields_List}
+use Rattle.identity.proofs.OutsideLaws.{outside_found}
+use Rattle.mode_a.specs.Station.{list_of}
+use Rattle.mode_a.specs.Heard.{may_hold}
 use Rattle.refusals.proofs.first_bad.Goals as goal
 
-pub returns-then-not-may_stand : goal.returns-then-not-may_stand
-unfolding first_not
-returns-then-not-may_stand c = rw (← c.may_stand.ensures, not-true c.may_stand.result c.if-not-may_stand.true-raw)
-
-pub returns-then-not-may_stand-2 : goal.returns-then-not-may_stand-2
-unfolding first_not
-returns-then-not-may_stand-2 c =
-    rw (← c.may_stand.ensures, not-false c.may_stand.result c.if-not-may_stand.false-raw, ← c.may_stand-2.ensures, not-true c.may_stand-2.result c.if-not-may_stand-2.true-raw)
-
-pub returns-then-not-may_stand-3 : goal.returns-then-not-may_stand-3
-unfolding first_not
-returns-then-not-may_stand-3 c =
-    rw (← c.may_stand.ensures, not-false c.may_stand.result c.if-not-may_stand.false-raw, ← c.may_stand-2.ensures, not-false c.may_stand-2.result c.if-not-may_stand-2.false-raw, ← c.may_stand-3.ensures, not-true c.may_stand-3.result c.if-not-may_stand-3.true-raw)
-
 pub returns : goal.returns
-unfolding first_not
 returns c =
-    rw (← c.may_stand.ensures, not-false c.may_stand.result c.if-not-may_stand.false-raw, ← c.may_stand-2.ensures, not-false c.may_stand-2.result c.if-not-may_stand-2.false-raw, ← c.may_stand-3.ensures, not-false c.may_stand-3.result c.if-not-may_stand-3.false-raw)
+    let found = position_from_yields_List (λ w. not (may_hold w)) _ _ c.position.result c.position.ensures.ran
+    (YieldsList-from_slice (list_of c.args.w) c.iter.ensures.rest) (λ x b q k. search (rules, tests)) in
+    rw (c.unwrap_or.ensures, found) (outside_found may_hold (list_of c.args.w))

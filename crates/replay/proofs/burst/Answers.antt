@@ -2,14 +2,14 @@
 use Rattle.replay.proofs.GoLaws.{answers_so, refuses_so}
 use Rattle.replay.proofs.burst.Goals as goal
 
-pub returns-in-Done : goal.returns-in-Done
-returns-in-Done c =
+pub returns-in-Ok : goal.returns-in-Ok
+returns-in-Ok c =
     let r = c.hearing-by in
     let h = c.hears in
-    rw c.answered.ensures (answers_so c.args.state c.args.damage r.result r.ensures h.result h.ensures _ c.in-Done.is)
+    rw c.answered.ensures (answers_so c.args.state c.args.damage r.result r.ensures h.result h.ensures _ c.in-Ok.is)
 
-pub returns-in_default : goal.returns-in_default
-returns-in_default c =
+pub returns-in-Err : goal.returns-in-Err
+returns-in-Err c =
     let r = c.hearing-by in
     let h = c.hears in
-    refuses_so c.args.state c.args.damage r.result r.ensures h.result h.ensures c.in_default.not-Done
+    refuses_so c.args.state c.args.damage r.result r.ensures h.result h.ensures _ c.in-Err.is

@@ -1,11 +1,6 @@
 -- `replay::goes` meets its contract. Assumes nothing.
-use Rattle.replay.proofs.GoLaws.{burst_goes, offer_goes}
+use Rattle.replay.proofs.GoLaws.{offer_goes}
 use Rattle.replay.proofs.goes.Goals as goal
-
-pub returns-in-Burst : goal.returns-in-Burst
-returns-in-Burst c =
-    let t = c.says in
-    burst_goes c.args.state c.args.entry t.result t.ensures c.burst.result _ c.in-Burst.is c.burst.ensures
 
 pub returns-in-Offer : goal.returns-in-Offer
 returns-in-Offer c =

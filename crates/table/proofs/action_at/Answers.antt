@@ -19,20 +19,6 @@ use Rattle.table.specs.Actions.{action_of, row_no}
 use Rattle.table.proofs.KindLaws.{by_kind}
 use Rattle.table.proofs.action_at.Goals as goal
 
-row_lt : (p : Place) → row_no p < 12
-row_lt (Sending h) = lit< tt
-row_lt (Turning n) = lit< tt
-row_lt Opening = lit< tt
-row_lt (Ending e) = lit< tt
-row_lt (Receiving n) = lit< tt
-row_lt Asking = lit< tt
-row_lt (StandBy w) = lit< tt
-row_lt Lost = lit< tt
-row_lt (Calling c) = lit< tt
-row_lt (Calling3 c) = lit< tt
-row_lt (Identifying i) = lit< tt
-row_lt (Answering g) = lit< tt
-
 column-lt : (k : Kind) → column_of k < 18
 column-lt =
     by_kind (λ k. column_of k < 18)
@@ -112,10 +98,10 @@ pub bounds-cells-column : goal.bounds-cells-column
 bounds-cells-column c = omega (arith, c.column_of-column.ensures, column-lt c.args.kind)
 
 pub bounds-cells-row : goal.bounds-cells-row
-bounds-cells-row c = omega (arith, c.row_no-row.ensures, row_lt c.args.place)
+bounds-cells-row c = omega arith
 
 pub returns : goal.returns
 unfolding action_of
 returns c =
-    ap₂ (λ (k p : ℕ). get_or (get_or table k []) p Action.Asked1) c.column_of-column.ensures c.row_no-row.ensures
+    ap₂ (λ (k p : ℕ). get_or (get_or table k []) p Action.Asked1) c.column_of-column.ensures c.row_no-row.ensures.row
     ∙ at_both c.args.place c.args.kind

@@ -1,46 +1,26 @@
 -- `walking::look_at` meets its contract: at each answer what was read there and how it was judged. Assumes nothing.
-use mathlib.Core.Path.{refl}
-use native.Mathlib.Omega.{arith}
-use Rattle.entries.specs.declared.Passed.{Passed}
-use Rattle.telling.specs.declared.Fault.{Fault}
-use Rattle.walking.proofs.LookLaws.{looks_tell, looks_fault, looks_end, looks_unknown, looks_short}
+use mathlib.Core.Path.{◌≡◌}
+use Rattle.std.proofs.Common.{rules}
+use Rattle.std.specs.Prelude.{Err}
+use Rattle.entries.specs.Entries.{told_as}
+use Rattle.walking.proofs.LookLaws.{ends_none, ends_unread, ends_judged}
 use Rattle.walking.proofs.look_at.Goals as goal
 
-pub returns-in-None : goal.returns-in-None
-returns-in-None c =
-    let f = c.fault_of in
-    let r = c.entry_at in
-    looks_tell c.args.bytes.now c.args.walk r.result r.ensures c.in-Entry.entry c.in-Entry.next c.in-Entry.is f.result f.ensures c.in-None.is
+pub returns-in_err-entry : goal.returns-in_err-entry
+returns-in_err-entry c =
+    let x = c.in_err-entry.field-0.0 in
+    let r : c.from_residual.result ≡ Err (told_as x) = search rules in
+    let e = c.in_err-entry.ensures in
+    rw r (e.2, λ p s. ends_unread c.args.reader.now.bytes.now c.args.reader.now.at p x e.0)
 
-pub returns-in-BadBurst : goal.returns-in-BadBurst
-returns-in-BadBurst c =
-    let f = c.fault_of in
-    let r = c.entry_at in
-    looks_fault c.args.bytes.now c.args.walk r.result r.ensures c.in-Entry.entry c.in-Entry.next c.in-Entry.is f.result f.ensures Fault.BadBurst (Passed.BadBurst c.args.walk.at) (λ z. omega (arith, z)) refl c.in-BadBurst.is
+pub returns-in_default : goal.returns-in_default
+returns-in_default c =
+    let e = rw c.in_default.is at c.in_ok-entry.ensures in
+    (e.2, λ p s. ends_none c.args.reader.now.bytes.now c.args.reader.now.at p e.0)
 
-pub returns-in-StillOffered : goal.returns-in-StillOffered
-returns-in-StillOffered c =
-    let f = c.fault_of in
-    let r = c.entry_at in
-    looks_fault c.args.bytes.now c.args.walk r.result r.ensures c.in-Entry.entry c.in-Entry.next c.in-Entry.is f.result f.ensures Fault.StillOffered (Passed.StillOffered c.args.walk.at) (λ z. omega (arith, z)) refl c.in-StillOffered.is
-
-pub returns-in-BadWord : goal.returns-in-BadWord
-returns-in-BadWord c =
-    let f = c.fault_of in
-    let r = c.entry_at in
-    looks_fault c.args.bytes.now c.args.walk r.result r.ensures c.in-Entry.entry c.in-Entry.next c.in-Entry.is f.result f.ensures Fault.BadWord (Passed.BadWord c.args.walk.at) (λ z. omega (arith, z)) refl c.in-BadWord.is
-
-pub returns-in-Nothing : goal.returns-in-Nothing
-returns-in-Nothing c =
-    let r = c.entry_at in
-    looks_end c.args.bytes.now c.args.walk r.result r.ensures c.in-Nothing.is
-
-pub returns-in-Unknown : goal.returns-in-Unknown
-returns-in-Unknown c =
-    let r = c.entry_at in
-    looks_unknown c.args.bytes.now c.args.walk r.result r.ensures c.in-Unknown.is
-
-pub returns-in-Short : goal.returns-in-Short
-returns-in-Short c =
-    let r = c.entry_at in
-    looks_short c.args.bytes.now c.args.walk r.result r.ensures c.in-Short.is
+pub returns-in_err-judge : goal.returns-in_err-judge
+returns-in_err-judge c =
+    let y = c.in_err-judge.field-0.0 in
+    let r : c.from_residual-in_err-judge.result ≡ Err y = search rules in
+    let e = rw c.in-Some.is at c.in_ok-entry.ensures in
+    rw r (e.2, λ p s. ends_judged c.args.reader.now.bytes.now c.args.reader.now.at p c.in-Some.entry c.next_entry.new.self.at e.0 c.args.standing s y c.in_err-judge.ensures)

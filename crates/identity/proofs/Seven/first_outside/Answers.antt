@@ -1,9 +1,16 @@
--- `Seven::first_outside` meets its contract: each call of `outside` judges one word more, from the last to the first. Assumes nothing.
+-- `Seven::first_outside` meets its contract. Assumes nothing.
+use mathlib.Core.Bool.{not}
+use borrow.Author.Tests.{tests}
+use Rattle.std.proofs.Common.{rules}
+use Rattle.std.proofs.lemmas.Iterator.{YieldsList-from_slice}
+use Rattle.std.proofs.lemmas.Iterator.Search.{position_from_yields_List}
+use Rattle.identity.specs.Table3.{is_identity}
 use Rattle.identity.specs.Sums.{signals_of7}
-use Rattle.identity.proofs.OutsideLaws.{outside_from_0}
+use Rattle.identity.proofs.OutsideLaws.{outside_found}
 use Rattle.identity.proofs.Seven.first_outside.Goals as goal
 
 pub returns : goal.returns
 returns c =
-    rw (c.outside.ensures, c.outside-from_1.ensures, c.outside-from_2.ensures, c.outside-from_3.ensures)
-    (rw (c.outside-from_4.ensures, c.outside-from_5.ensures, c.outside-from_6.ensures) (outside_from_0 (signals_of7 c.args.self)))
+    let found = position_from_yields_List (λ w. not (is_identity w)) _ _ c.position.result c.position.ensures.ran
+    (YieldsList-from_slice (signals_of7 c.args.self) c.iter.ensures.rest) (λ x b q k. search (rules, tests)) in
+    rw (c.unwrap_or.ensures, found) (outside_found is_identity (signals_of7 c.args.self))

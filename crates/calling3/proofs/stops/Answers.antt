@@ -1,5 +1,0 @@
--- `calling3::stops` meets its contract. Assumes nothing.
-use Rattle.calling3.proofs.stops.Goals as goal
-
-pub returns : goal.returns
-returns c = rw (← c.called3_in-c.ensures)

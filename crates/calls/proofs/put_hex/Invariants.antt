@@ -1,6 +1,0 @@
--- `put_hex` ends: each turn is a byte further. Assumes nothing.
-use Rattle.std.proofs.Common.{length, ◌-◌}
-use Rattle.calls.proofs.put_hex.Given as goal
-
-abbrev pub decreases-loop-i : goal.decreases-loop-i
-decreases-loop-i l = length l.bytes - l.i

@@ -1,5 +1,0 @@
--- `Seven::check_sum_1` meets its contract. Assumes nothing.
-use Rattle.identity.proofs.Seven.check_sum_1.Goals as goal
-
-pub returns : goal.returns
-returns c = c.check_sum.ensures

@@ -1,8 +1,0 @@
--- `Number::asks` meets its contract. Assumes nothing.
-use Rattle.mode_a.proofs.Number.asks.Goals as goal
-
-pub returns-in-One : goal.returns-in-One
-returns-in-One c = simp c.in-One.is
-
-pub returns-in-Two : goal.returns-in-Two
-returns-in-Two c = simp c.in-Two.is

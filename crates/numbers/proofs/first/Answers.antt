@@ -1,8 +1,0 @@
--- `numbers::first` meets its contract. Assumes nothing.
-use Rattle.numbers.proofs.first.Goals as goal
-
-pub returns-then-begun : goal.returns-then-begun
-returns-then-begun c = rw c.if-begun.true
-
-pub returns : goal.returns
-returns c = rw c.if-begun.false

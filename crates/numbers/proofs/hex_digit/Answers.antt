@@ -1,9 +1,0 @@
--- `numbers::hex_digit` meets its contract. Assumes nothing.
-use borrow.Author.Tests.{lt-ltb, le-ltb}
-use Rattle.numbers.proofs.hex_digit.Goals as goal
-
-pub returns-then-value-lt10 : goal.returns-then-value-lt10
-returns-then-value-lt10 c = rw (lt-ltb _ 10 c.if-value-lt10.true)
-
-pub returns : goal.returns
-returns c = rw (le-ltb _ 10 c.if-value-lt10.false)

@@ -1,0 +1,2 @@
+-- Columns   every kind has a name
+pub mod Columns
