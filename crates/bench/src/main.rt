@@ -1,16 +1,17 @@
 // Runs one call many times on pseudo-random input and writes a check-sum of its answers (docs/COST.md, docs/FORMATS.md).
 #![tactic(auto)]
 
-ghost use Rattle.std.specs.Prelude.{◌<◌};
+ghost use Rattle.std.specs.Prelude.{◌<◌, length};
+ghost use Rattle.filters.specs.Counts.{IsPrefixLen};
 
 use entries::{PassError, Printed};
-use filters::Stream;
+use filters::Streams;
 use identity::Seven;
 use mode_a::{
     BadIdentity, Identity, Offer, Owed, Peer, Place, Refusal, Refused, Reply, Role, Station, Words,
 };
 use mode_b::{BadReceiver, Heard, Hearing, Phasing, Receiver, SlotError};
-use numbers::Line;
+use numbers::Room;
 use reasons::{Reason, Star, StarError};
 use signals::Case;
 use std::process::ExitCode;
@@ -179,8 +180,10 @@ fn fill<F: Fn(u64, usize) -> u8>(room: &mut [u8], made: F) -> u64
 }
 
 // The first bytes, as many as there are of so many.
-fn first(bytes: &[u8], length: usize) -> &[u8] {
-    &bytes[..length.min(bytes.len())]
+fn first(bytes: &[u8], most: usize) -> &[u8]
+    ensures { IsPrefixLen (length result.now) bytes.now }
+{
+    &bytes[..most.min(bytes.len())]
 }
 
 // --- meaning ---
@@ -782,9 +785,9 @@ fn answered(asked: Asked) -> (&'static [u8], u64) {
 
 // A function of its own, since bench/stack stops a run where it begins.
 #[inline(never)]
-fn answer(stream: &mut Stream, name: &[u8], sum: u64) -> Result<(), ExitCode> {
+fn answer(stream: &mut Streams, name: &[u8], sum: u64) -> Result<(), ExitCode> {
     let mut room = [0u8; 32];
-    let mut line = Line::new(&mut room);
+    let mut line = Room::new(&mut room);
     line.put_all(name);
     filters::put_decimal(&mut line, sum);
     stream.put_line(line);
@@ -795,7 +798,7 @@ fn run(rt: HostRuntime) -> Result<(), ExitCode> {
     filters::no_words(rt, b"bench")?;
     let mut input = [0u8; 64];
     let mut output = [0u8; 64];
-    let mut stream = Stream::new(rt, &mut input, &mut output);
+    let mut stream = Streams::new(rt, &mut input, &mut output);
     // white space behind what is read; an input that fills the line is too long
     let mut bytes = [32u8; 64];
     let count = stream.record(&mut bytes);
@@ -814,5 +817,5 @@ fn run(rt: HostRuntime) -> Result<(), ExitCode> {
 }
 
 fn main(rt: HostRuntime) -> ExitCode {
-    filters::status(run(rt))
+    filters::status_after(run(rt))
 }

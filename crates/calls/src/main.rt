@@ -4,11 +4,11 @@
 ghost use Rattle.std.specs.Prelude.{◌<◌, IfSome, IfOk};
 
 use entries::{PassError, Printed};
-use filters::Stream;
+use filters::Streams;
 use identity::Seven;
 use mode_a::{BadCode, BadIdentity, Code, Identity, Refusal, Station, Words};
 use mode_b::{Heard, Hearing, Phase, Phasing, Receiver, SlotError, Wait};
-use numbers::Line;
+use numbers::Room;
 use reasons::Reason;
 use signals::Case;
 use std::process::ExitCode;
@@ -35,16 +35,16 @@ fn two_bytes(low: u8, high: u8) -> usize
 }
 
 // Two capital hexadecimal digits for each byte.
-fn put_hex(stream: &mut Stream, bytes: &[u8]) {
+fn put_hex(stream: &mut Streams, bytes: &[u8]) {
     for &byte in bytes {
         let mut digits = [0u8; 2];
-        Line::new(&mut digits).put_hex(byte);
+        Room::new(&mut digits).put_hex(byte);
         stream.put_all(&digits);
     }
 }
 
 // The whole of a lent room, or - where it has no length.
-fn put_room(stream: &mut Stream, room: &[u8]) {
+fn put_room(stream: &mut Streams, room: &[u8]) {
     if room.is_empty() {
         stream.put_all(b" -");
     } else {
@@ -53,13 +53,13 @@ fn put_room(stream: &mut Stream, room: &[u8]) {
     }
 }
 
-fn put_ok(line: &mut Line, written: usize, ends: Case) {
+fn put_ok(line: &mut Room, written: usize, ends: Case) {
     line.put_all(b"ok ");
     filters::put_decimal(line, written as u64);
     fields::put_case(line, ends);
 }
 
-fn put_encoded(line: &mut Line, answer: Result<Written, EncodeError>) {
+fn put_encoded(line: &mut Room, answer: Result<Written, EncodeError>) {
     match answer {
         Ok(Written { count, ends }) => put_ok(line, count, ends),
         Err(EncodeError::TooLong) => filters::put_refusal(line, 5, 4096),
@@ -68,7 +68,7 @@ fn put_encoded(line: &mut Line, answer: Result<Written, EncodeError>) {
     }
 }
 
-fn put_printed(line: &mut Line, answer: Result<Written, PrintError>) {
+fn put_printed(line: &mut Room, answer: Result<Written, PrintError>) {
     match answer {
         Ok(Written { count, ends }) => put_ok(line, count, ends),
         Err(PrintError::TooLong) => filters::put_refusal(line, 7, 8192),
@@ -77,7 +77,7 @@ fn put_printed(line: &mut Line, answer: Result<Written, PrintError>) {
     }
 }
 
-fn put_passed(line: &mut Line, answer: Result<Printed, PassError>) {
+fn put_passed(line: &mut Room, answer: Result<Printed, PassError>) {
     match answer {
         Ok(Printed { master, slave }) => {
             line.put_all(b"ok ");
@@ -95,7 +95,7 @@ fn put_passed(line: &mut Line, answer: Result<Printed, PassError>) {
 }
 
 // The call of a record of kind E, which takes small letters as the capitals, or of kind P.
-fn put_call(line: &mut Line, kind: u8, case: Case, list: &[u8], room: &mut [u8]) {
+fn put_call(line: &mut Room, kind: u8, case: Case, list: &[u8], room: &mut [u8]) {
     if kind == b'E' {
         put_encoded(line, encoding::encode(list, case, room));
     } else {
@@ -104,9 +104,9 @@ fn put_call(line: &mut Line, kind: u8, case: Case, list: &[u8], room: &mut [u8])
 }
 
 // A call of kind E or P.
-fn call(stream: &mut Stream, kind: u8, case: Case, list: &[u8], room: &mut [u8]) {
+fn call(stream: &mut Streams, kind: u8, case: Case, list: &[u8], room: &mut [u8]) {
     let mut said = [0u8; 32];
-    let mut line = Line::new(&mut said);
+    let mut line = Room::new(&mut said);
     put_call(&mut line, kind, case, list, room);
     stream.put_all(line.bytes());
     put_room(stream, room);
@@ -114,9 +114,9 @@ fn call(stream: &mut Stream, kind: u8, case: Case, list: &[u8], room: &mut [u8])
 }
 
 // A call of kind V.
-fn pass(stream: &mut Stream, list: &[u8], master: &mut [u8], slave: &mut [u8]) {
+fn pass(stream: &mut Streams, list: &[u8], master: &mut [u8], slave: &mut [u8]) {
     let mut said = [0u8; 48];
-    let mut line = Line::new(&mut said);
+    let mut line = Room::new(&mut said);
     put_passed(&mut line, passing::passage(list, master, slave));
     stream.put_all(line.bytes());
     put_room(stream, master);
@@ -125,7 +125,7 @@ fn pass(stream: &mut Stream, list: &[u8], master: &mut [u8], slave: &mut [u8]) {
 }
 
 // A call of kind S.
-fn put_slot(line: &mut Line, slot: Result<u8, SlotError>) {
+fn put_slot(line: &mut Room, slot: Result<u8, SlotError>) {
     match slot {
         Ok(word) => {
             line.put_all(b"ok ");
@@ -142,7 +142,7 @@ fn four_bytes(head: &[u8; 84]) -> usize {
 }
 
 // A call of kind M.
-fn put_meaning(line: &mut Line, byte: u8) {
+fn put_meaning(line: &mut Room, byte: u8) {
     line.put_number(signals::meaning(byte));
     fields::put_flag(line, signals::intact(byte));
 }
@@ -183,7 +183,7 @@ fn receiver_of(head: &[u8; 84]) -> Receiver {
 }
 
 // The run, and its last signal: a run of 0 has none.
-fn put_searching(line: &mut Line, run: u8, last: Phasing) {
+fn put_searching(line: &mut Room, run: u8, last: Phasing) {
     line.put_all(b"searching");
     fields::put_number(line, run);
     match last {
@@ -198,12 +198,12 @@ fn oldest(p: Phase) -> u8 {
     if p.dx { 0 } else { p.first }
 }
 
-fn put_next(line: &mut Line, dx: bool) {
+fn put_next(line: &mut Room, dx: bool) {
     line.put_all(if dx { b" dx" } else { b" rx" });
 }
 
 // The DX words, the next slot, whether printing has begun, and a wait of 0.
-fn put_phase(line: &mut Line, p: Phase) {
+fn put_phase(line: &mut Room, p: Phase) {
     line.put_all(b"phase");
     fields::put_number(line, oldest(p));
     fields::put_number(line, p.second);
@@ -214,7 +214,7 @@ fn put_phase(line: &mut Line, p: Phase) {
 }
 
 // The one DX word that waits, the next slot, whether printing has begun, and the wait.
-fn put_wait(line: &mut Line, v: Wait) {
+fn put_wait(line: &mut Room, v: Wait) {
     line.put_all(b"phase");
     fields::put_number(line, v.word);
     line.put_all(b" 0 0");
@@ -223,7 +223,7 @@ fn put_wait(line: &mut Line, v: Wait) {
     fields::put_number(line, v.left);
 }
 
-fn put_hearing(line: &mut Line, receiver: Receiver) {
+fn put_hearing(line: &mut Room, receiver: Receiver) {
     match receiver.hearing {
         Hearing::Searching(run, last) => put_searching(line, run, last),
         Hearing::InPhase(p) => put_phase(line, p),
@@ -231,14 +231,14 @@ fn put_hearing(line: &mut Line, receiver: Receiver) {
     }
 }
 
-fn put_heard(line: &mut Line, heard: Heard) {
+fn put_heard(line: &mut Room, heard: Heard) {
     put_hearing(line, heard.receiver);
     line.put_all(b" |");
     fields::put_number(line, heard.printed.unwrap_or(0));
 }
 
 // A call of kind R.
-fn put_received(line: &mut Line, head: &[u8; 84]) {
+fn put_received(line: &mut Room, head: &[u8; 84]) {
     let received = receiving::receive(receiver_of(head), head[9]);
     match received {
         Ok(heard) => put_heard(line, heard),
@@ -247,7 +247,7 @@ fn put_received(line: &mut Line, head: &[u8; 84]) {
 }
 
 // A call of kind Y.
-fn put_starred(line: &mut Line, head: &[u8; 84]) {
+fn put_starred(line: &mut Room, head: &[u8; 84]) {
     let starred = starring::star(receiver_of(head), head[9]);
     match starred {
         Ok(star) => written::put_star(line, star),
@@ -265,7 +265,7 @@ fn asked(head: &[u8; 84]) -> Result<Reason, Refusal> {
 }
 
 // The answer to a call of kind I or J.
-fn put_stood(line: &mut Line, stood: Result<Station, BadIdentity>) {
+fn put_stood(line: &mut Room, stood: Result<Station, BadIdentity>) {
     match stood {
         Ok(_) => line.put_all(b"ok"),
         Err(BadIdentity(index)) => filters::put_refusal(line, 8, index as u64),
@@ -302,7 +302,7 @@ fn coded(head: &[u8; 84]) -> Result<Station, BadCode> {
     )
 }
 
-fn put_coded(line: &mut Line, answer: Result<Station, BadCode>) {
+fn put_coded(line: &mut Room, answer: Result<Station, BadCode>) {
     match answer {
         Ok(_) => line.put_all(b"ok"),
         Err(_) => filters::put_refusal(line, 9, 0),
@@ -310,7 +310,7 @@ fn put_coded(line: &mut Line, answer: Result<Station, BadCode>) {
 }
 
 // A call of another kind.
-fn put_other(line: &mut Line, kind: u8, head: &[u8; 84], list: &[u8]) {
+fn put_other(line: &mut Room, kind: u8, head: &[u8; 84], list: &[u8]) {
     match kind {
         b'S' => put_slot(line, sending::slot(list, four_bytes(head))),
         b'M' => put_meaning(line, head[0]),
@@ -369,7 +369,7 @@ fn length_in(kind: u8, head: &[u8; 84]) -> usize
     }
 }
 
-fn answer(stream: &mut Stream, kind: u8, head: &[u8; 84], list: &[u8]) {
+fn answer(stream: &mut Streams, kind: u8, head: &[u8; 84], list: &[u8]) {
     match kind {
         b'E' | b'P' => {
             let mut room = [170u8; MOST_ROOM];
@@ -396,7 +396,7 @@ fn answer(stream: &mut Stream, kind: u8, head: &[u8; 84], list: &[u8]) {
         }
         _ => {
             let mut said = [0u8; 64];
-            let mut line = Line::new(&mut said);
+            let mut line = Room::new(&mut said);
             put_other(&mut line, kind, head, list);
             stream.put_line(line);
         }
@@ -404,7 +404,7 @@ fn answer(stream: &mut Stream, kind: u8, head: &[u8; 84], list: &[u8]) {
 }
 
 // Reads the list and answers; the length of the list.
-fn listed(stream: &mut Stream, kind: u8, head: &[u8; 84]) -> Result<usize, BadRecord>
+fn listed(stream: &mut Streams, kind: u8, head: &[u8; 84]) -> Result<usize, BadRecord>
     ensures { IfOk result (λ n. n < 65536) }
 {
     let length = length_in(kind, head);
@@ -424,7 +424,7 @@ fn listed(stream: &mut Stream, kind: u8, head: &[u8; 84]) -> Result<usize, BadRe
 }
 
 // Reads a record and answers, unless the input is over; how many bytes it has.
-fn record(stream: &mut Stream) -> Result<Option<u64>, BadRecord> {
+fn record(stream: &mut Streams) -> Result<Option<u64>, BadRecord> {
     let mut kind = [0u8; 1];
     if stream.record(&mut kind) == 0 {
         return Ok(None);
@@ -439,7 +439,7 @@ fn record(stream: &mut Stream) -> Result<Option<u64>, BadRecord> {
 }
 
 // Answers all records; where there is none any more, the place of what is no record, if anything stands there.
-fn records(stream: &mut Stream) -> Result<(), (u64, BadRecord)> {
+fn records(stream: &mut Streams) -> Result<(), (u64, BadRecord)> {
     let mut place: u64 = 0;
     for _ in 0..u64::MAX {
         match record(stream) {
@@ -465,7 +465,7 @@ fn run(rt: HostRuntime) -> Result<(), ExitCode> {
     filters::no_words(rt, b"calls")?;
     let mut input = [0u8; 4096];
     let mut output = [0u8; 4096];
-    let mut stream = Stream::new(rt, &mut input, &mut output);
+    let mut stream = Streams::new(rt, &mut input, &mut output);
     let answered = records(&mut stream);
     stream.finish(b"calls")?;
     answered.map_err(|(place, bad)| {
@@ -474,5 +474,5 @@ fn run(rt: HostRuntime) -> Result<(), ExitCode> {
 }
 
 fn main(rt: HostRuntime) -> ExitCode {
-    filters::status(run(rt))
+    filters::status_after(run(rt))
 }

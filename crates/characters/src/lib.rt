@@ -26,7 +26,10 @@ fn has_signal(byte: u8) -> bool
 pub fn first_without(text: &[u8]) -> usize
     ensures { result ≡ first_not has_signal text.now }
 {
-    text.iter()
-        .position(|byte| !has_signal(*byte))
-        .unwrap_or(text.len())
+    for i in 0..text.len() {
+        if !has_signal(text[i]) {
+            return i;
+        }
+    }
+    text.len()
 }

@@ -65,12 +65,13 @@ unmeant : (w : ℕ) → 256 ≤ w → meaning_of w ≡ 0
 unfolding meaning_of
 unmeant w h = unnumbered signals 1 w h tt
 
--- a traffic signal is intact, and is neither α nor RQ
+-- a traffic signal is intact, and is neither α nor RQ nor 0
 pub record Traffic (w : ℕ) : Type 0 where
   pub is_traffic : traffic_of w ≡ true
   pub is_intact : intact_of w ≡ true
   pub not_alpha : eqb w alpha ≡ false
   pub not_rq_lem : eqb w rq ≡ false
+  pub not_zero : eqb w 0 ≡ false
 
 pub traffic : (w : ℕ) → traffic_of w ≡ true → Traffic w
 unfolding traffic_of meaning_of
@@ -80,6 +81,7 @@ traffic w t =
       is_intact = is_intact (ltb w 256) refl;
       not_alpha = unlike traffic_of w alpha t refl;
       not_rq_lem = unlike traffic_of w rq t refl;
+      not_zero = unlike traffic_of w 0 t refl;
     }
   where
     meant : leb 1 (meaning_of w) ≡ true

@@ -1,14 +1,14 @@
 // Encodes standard input, from letters case, small letters as capitals, and writes its signals (docs/FORMATS.md).
 #![tactic(auto)]
 
-use filters::Stream;
+use filters::Streams;
 use signals::Case;
 use std::process::ExitCode;
 use text::{EncodeError, Written};
 
 // The signals written, or the refusal told.
 fn tell(
-    stream: &mut Stream,
+    stream: &mut Streams,
     answer: Result<Written, EncodeError>,
     room: &[u8],
 ) -> Result<(), ExitCode> {
@@ -21,7 +21,7 @@ fn tell(
             stream.finish(b"encode")
         }
         Err(EncodeError::TooLong) => Err(filters::tell_refusal(
-            stream.rt,
+            stream.stands().rt,
             b"encode",
             5,
             4096,
@@ -29,7 +29,7 @@ fn tell(
             b" characters",
         )),
         Err(EncodeError::NoSignal(index)) => Err(filters::tell_refusal(
-            stream.rt,
+            stream.stands().rt,
             b"encode",
             1,
             index as u64,
@@ -38,7 +38,7 @@ fn tell(
         )),
         // not reached: no text that is not too long needs more
         Err(EncodeError::NoRoom(needed)) => Err(filters::tell_refusal(
-            stream.rt,
+            stream.stands().rt,
             b"encode",
             2,
             needed as u64,
@@ -52,7 +52,7 @@ fn run(rt: HostRuntime) -> Result<(), ExitCode> {
     filters::no_words(rt, b"encode")?;
     let mut input = [0u8; 4096];
     let mut output = [0u8; 4096];
-    let mut stream = Stream::new(rt, &mut input, &mut output);
+    let mut stream = Streams::new(rt, &mut input, &mut output);
     // one character over the limit is enough to refuse
     let mut characters = [0u8; 4097];
     let count = stream.record(&mut characters);
@@ -63,5 +63,5 @@ fn run(rt: HostRuntime) -> Result<(), ExitCode> {
 }
 
 fn main(rt: HostRuntime) -> ExitCode {
-    filters::status(run(rt))
+    filters::status_after(run(rt))
 }

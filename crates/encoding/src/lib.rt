@@ -18,7 +18,7 @@ ghost use Rattle.std.specs.Prelude.{
 };
 ghost use Rattle.laws.specs.Room.{Wrote};
 ghost use Rattle.signals.specs.declared.Case.{Case};
-ghost use Rattle.signals.specs.Cases.{other};
+ghost use Rattle.signals.specs.Cases.{other, shift_to};
 ghost use Rattle.signals.specs.Numbers.{first_not};
 ghost use Rattle.text.specs.Encoding.{character_of, has_signal, signals_for, case_after, encoded, ends_encoded, Encodes};
 ghost use Rattle.characters.specs.Holder.{HasRow};
@@ -79,6 +79,13 @@ fn past(from: Written, byte: u8, row: Row) -> Written
     }
 }
 
+// The shift to a case.
+fn shift_to(case: Case) -> u8
+    ensures { result ≡ shift_to case }
+{
+    case.shift()
+}
+
 // Writes a byte's signals: the shift that it needs, if any, and its own.
 fn put(room: &mut [u8], from: Written, byte: u8, row: Row) -> Written
     requires row { HasRow byte row }
@@ -89,7 +96,7 @@ fn put(room: &mut [u8], from: Written, byte: u8, row: Row) -> Written
 {
     let to = past(from, byte, row);
     if to.ends != from.ends {
-        room[from.count] = to.ends.shift();
+        room[from.count] = shift_to(to.ends);
     }
     room[to.count - 1] = row.0;
     to

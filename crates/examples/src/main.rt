@@ -1,24 +1,24 @@
 // Runs 01's worked examples that are not proved, a byte that has no signal, two calls of two stations, an answer-back, and the limits of printing and of mode B, and writes what each gives.
 #![tactic(auto)]
 
-use filters::Stream;
+use filters::Streams;
 use identity::Seven;
 use mode_a::{
     BadCode, BadIdentity, Code, Identity, Number, Offer, Owed, Peer, Place, Refused, Reply, Role,
     Station, Words,
 };
 use mode_b::{BadReceiver, Heard, Hearing, Phasing, Receiver, SlotError};
-use numbers::Line;
+use numbers::Room;
 use signals::Case;
 use std::process::ExitCode;
 use text::{EncodeError, PrintError, Written};
 
-fn put_written(line: &mut Line, count: usize) {
+fn put_written(line: &mut Room, count: usize) {
     line.put_all(b"written ");
     filters::put_decimal(line, count as u64);
 }
 
-fn put_encoded(line: &mut Line, answer: Result<Written, EncodeError>) {
+fn put_encoded(line: &mut Room, answer: Result<Written, EncodeError>) {
     match answer {
         Ok(Written { count, ends: _ }) => put_written(line, count),
         Err(EncodeError::TooLong) => filters::put_refusal(line, 5, 4096),
@@ -27,7 +27,7 @@ fn put_encoded(line: &mut Line, answer: Result<Written, EncodeError>) {
     }
 }
 
-fn put_printed(line: &mut Line, answer: Result<Written, PrintError>) {
+fn put_printed(line: &mut Room, answer: Result<Written, PrintError>) {
     match answer {
         Ok(Written { count, ends: _ }) => put_written(line, count),
         Err(PrintError::TooLong) => filters::put_refusal(line, 7, 8192),
@@ -37,25 +37,25 @@ fn put_printed(line: &mut Line, answer: Result<Written, PrintError>) {
 }
 
 // A line: what it is about, and what that gives.
-fn encode_line(line: &mut Line, about: &[u8], answer: Result<Written, EncodeError>) {
+fn encode_line(line: &mut Room, about: &[u8], answer: Result<Written, EncodeError>) {
     line.put_all(about);
     put_encoded(line, answer);
     line.put(10);
 }
 
-fn print_line(line: &mut Line, about: &[u8], answer: Result<Written, PrintError>) {
+fn print_line(line: &mut Room, about: &[u8], answer: Result<Written, PrintError>) {
     line.put_all(about);
     put_printed(line, answer);
     line.put(10);
 }
 
-fn put_word(line: &mut Line, word: u8) {
+fn put_word(line: &mut Room, word: u8) {
     line.put_all(b", the word ");
     filters::put_decimal(line, word as u64);
 }
 
 // 01's example "a", as 02, T-01 has it: what it gives, and the word.
-fn small_letter(line: &mut Line) {
+fn small_letter(line: &mut Room) {
     let mut room = [0u8; 2];
     let answer = encoding::encode(b"a", Case::Letters, &mut room);
     line.put_all(b"encode \"a\": ");
@@ -64,7 +64,7 @@ fn small_letter(line: &mut Line) {
     line.put(10);
 }
 
-fn text(line: &mut Line) {
+fn text(line: &mut Room) {
     let mut room = [0u8; 2];
     let brace = encoding::encode(b"{", Case::Letters, &mut room);
     let short = encoding::encode(b"A1", Case::Letters, &mut room);
@@ -72,7 +72,7 @@ fn text(line: &mut Line) {
     encode_line(line, b"encode \"A1\", room 2: ", short);
 }
 
-fn encode_limits(line: &mut Line) {
+fn encode_limits(line: &mut Room) {
     let mut room = [0u8; 8192];
     let most = encoding::encode(&[b'A'; 4096], Case::Letters, &mut room);
     let over = encoding::encode(&[b'A'; 4097], Case::Letters, &mut room);
@@ -80,7 +80,7 @@ fn encode_limits(line: &mut Line) {
     encode_line(line, b"encode 4097 characters: ", over);
 }
 
-fn print_limits(line: &mut Line) {
+fn print_limits(line: &mut Room) {
     let mut room = [0u8; 8192];
     let most = printing::print(&[71u8; 8192], Case::Letters, &mut room);
     let over = printing::print(&[71u8; 8193], Case::Letters, &mut room);
@@ -88,7 +88,7 @@ fn print_limits(line: &mut Line) {
     print_line(line, b"print 8193 signals: ", over);
 }
 
-fn put_place(line: &mut Line, place: Place) {
+fn put_place(line: &mut Room, place: Place) {
     match place {
         Place::Sending(_) => line.put_all(b"Sending"),
         Place::Turning(_) => line.put_all(b"Turning"),
@@ -106,7 +106,7 @@ fn put_place(line: &mut Line, place: Place) {
 }
 
 // Whether a step printed, and the place it leads to.
-fn put_reply(line: &mut Line, reply: Reply) {
+fn put_reply(line: &mut Room, reply: Reply) {
     if reply.printed.0 == 0 {
         line.put_all(b"nothing printed, ");
     } else {
@@ -115,7 +115,7 @@ fn put_reply(line: &mut Line, reply: Reply) {
     put_place(line, reply.station.place);
 }
 
-fn put_stepped(line: &mut Line, stepped: Result<Reply, Refused>) {
+fn put_stepped(line: &mut Room, stepped: Result<Reply, Refused>) {
     match stepped {
         Ok(reply) => put_reply(line, reply),
         Err(refused) => {
@@ -133,14 +133,14 @@ fn repeated(count: u8) -> Station {
     }
 }
 
-fn step_line(line: &mut Line, about: &[u8], burst: Words) {
+fn step_line(line: &mut Room, about: &[u8], burst: Words) {
     let stepped = station::step(repeated(31), burst, Offer::Nothing);
     line.put_all(about);
     put_stepped(line, stepped);
     line.put(10);
 }
 
-fn count_31(line: &mut Line) {
+fn count_31(line: &mut Room) {
     step_line(line, b"count 31 and a good block: ", Words(116, 86, 51));
     step_line(line, b"count 31 and a bad one: ", Words(116, 0, 51));
 }
@@ -150,31 +150,31 @@ const DOCK: Identity = Identity(83, 113, 29, 30);
 
 const VXQZ: Identity = Identity(60, 58, 46, 99);
 
-fn put_stood(line: &mut Line, stood: Result<Station, BadIdentity>) {
+fn put_stood(line: &mut Room, stood: Result<Station, BadIdentity>) {
     match stood {
         Ok(s) => put_place(line, s.place),
         Err(BadIdentity(index)) => filters::put_refusal(line, 8, index as u64),
     }
 }
 
-fn stood_line(line: &mut Line, about: &[u8], identity: Identity) {
+fn stood_line(line: &mut Room, about: &[u8], identity: Identity) {
     line.put_all(about);
     put_stood(line, Station::standing_by(identity));
     line.put(10);
 }
 
-fn identities(line: &mut Line) {
+fn identities(line: &mut Room) {
     stood_line(line, b"standing by as V X Q Z: ", VXQZ);
     stood_line(line, b"standing by as V X L Z: ", Identity(60, 58, 101, 99));
 }
 
-fn both_line(line: &mut Line, about: &[u8], seven: Seven) {
+fn both_line(line: &mut Room, about: &[u8], seven: Seven) {
     line.put_all(about);
     put_stood(line, Station::standing_by_both(VXQZ, seven));
     line.put(10);
 }
 
-fn both_identities(line: &mut Line) {
+fn both_identities(line: &mut Room) {
     both_line(line, b"and as P E A R D B Y: ", PEARDBY);
     both_line(
         line,
@@ -183,7 +183,7 @@ fn both_identities(line: &mut Line) {
     );
 }
 
-fn call_line(line: &mut Line, about: &[u8], count: u8, identity: Identity) {
+fn call_line(line: &mut Room, about: &[u8], count: u8, identity: Identity) {
     let stepped = station::step(repeated(count), mode_a::SILENCE, Offer::Call(identity));
     line.put_all(about);
     put_stepped(line, stepped);
@@ -191,7 +191,7 @@ fn call_line(line: &mut Line, about: &[u8], count: u8, identity: Identity) {
 }
 
 // The own seven signals of this station are zeros: none of the called one is bad, and the first of its own is.
-fn call_3_line(line: &mut Line) {
+fn call_3_line(line: &mut Room) {
     let stepped = station::step(repeated(32), mode_a::SILENCE, Offer::Call3(PEARDBY));
     line.put_all(b"count 32 and a call to P E A R D B Y: ");
     put_stepped(line, stepped);
@@ -199,7 +199,7 @@ fn call_3_line(line: &mut Line) {
 }
 
 // 8 is judged before 4, and at every place.
-fn refused_calls(line: &mut Line) {
+fn refused_calls(line: &mut Room) {
     call_line(line, b"count 32 and a call to V X Q Z: ", 32, VXQZ);
     call_line(
         line,
@@ -218,7 +218,7 @@ struct Pair {
     burst: Words,
 }
 
-fn put_burst(line: &mut Line, burst: Words) {
+fn put_burst(line: &mut Room, burst: Words) {
     line.put_number(burst.0);
     line.put(32);
     line.put_number(burst.1);
@@ -226,7 +226,7 @@ fn put_burst(line: &mut Line, burst: Words) {
     line.put_number(burst.2);
 }
 
-fn put_whether(line: &mut Line, printed: Words) {
+fn put_whether(line: &mut Room, printed: Words) {
     if printed.0 != 0 {
         line.put_all(b", accepted and printed ");
         put_burst(line, printed);
@@ -235,14 +235,14 @@ fn put_whether(line: &mut Line, printed: Words) {
 }
 
 // What a step sends, what it printed, with 0 behind the last signal, and the place it leads to.
-fn put_answer(line: &mut Line, reply: Reply) {
+fn put_answer(line: &mut Room, reply: Reply) {
     put_burst(line, reply.sent);
     put_whether(line, reply.printed);
     put_place(line, reply.station.place);
 }
 
 // Whether the burst is damaged, and whether text is offered.
-fn put_done(line: &mut Line, offer: Offer, damaged: bool) {
+fn put_done(line: &mut Room, offer: Offer, damaged: bool) {
     match offer {
         _ if damaged => line.put_all(b", the burst damaged: "),
         Offer::Text(_) => line.put_all(b", text offered: "),
@@ -251,7 +251,7 @@ fn put_done(line: &mut Line, offer: Offer, damaged: bool) {
 }
 
 // A line: what both stations answer.
-fn put_both(line: &mut Line, one: Reply, two: Reply) {
+fn put_both(line: &mut Room, one: Reply, two: Reply) {
     put_answer(line, one);
     line.put_all(b"; ");
     put_answer(line, two);
@@ -268,7 +268,7 @@ fn heard(burst: Words, damaged: bool) -> Words {
 
 impl Pair {
     // The caller hears what is on the way and is offered something, and the other hears its burst; what it takes is not offered again.
-    fn exchange(&mut self, line: &mut Line, offer: Offer, damaged: bool) {
+    fn exchange(&mut self, line: &mut Room, offer: Offer, damaged: bool) {
         let one = fields::reply_of(station::step(self.caller, self.burst, offer));
         let two = fields::reply_of(station::step(
             self.called,
@@ -297,7 +297,7 @@ struct Told {
 }
 
 // The exchanges of an example, in order. At the first the caller is offered `call`.
-fn exchanges(line: &mut Line, pair: &mut Pair, about: &[u8], call: Offer, told: Told) {
+fn exchanges(line: &mut Room, pair: &mut Pair, about: &[u8], call: Offer, told: Told) {
     let mut damaged = told.damaged;
     for number in 1..told.end {
         damaged /= 2;
@@ -325,7 +325,7 @@ fn standing(four: Identity) -> Station {
 }
 
 // A call of two stations at Stand-by, its second burst damaged, as far as the confirmation of the first block.
-fn worked_call(line: &mut Line) {
+fn worked_call(line: &mut Room) {
     let mut pair = Pair {
         caller: standing(DOCK),
         called: standing(VXQZ),
@@ -354,7 +354,7 @@ fn standing_both(four: Identity, seven: Seven) -> Station {
     }
 }
 
-fn put_seven(line: &mut Line, seven: Seven) {
+fn put_seven(line: &mut Room, seven: Seven) {
     put_burst(line, Words(seven.0, seven.1, seven.2));
     line.put(32);
     put_burst(line, Words(seven.3, seven.4, seven.5));
@@ -362,7 +362,7 @@ fn put_seven(line: &mut Line, seven: Seven) {
     line.put_number(seven.6);
 }
 
-fn put_known(line: &mut Line, s: Station) {
+fn put_known(line: &mut Room, s: Station) {
     match s.other {
         Peer::Known(seven) => put_seven(line, seven),
         _ => line.put_all(b"nobody told"),
@@ -371,7 +371,7 @@ fn put_known(line: &mut Line, s: Station) {
 
 // A call of seven signals, its first burst and that of the second identification block damaged, as far as the first block, and who is then
 // at the other end of each.
-fn worked_identification(line: &mut Line) {
+fn worked_identification(line: &mut Room) {
     let mut pair = Pair {
         caller: standing_both(DOCK, KQVZRSE),
         called: standing_both(VXQZ, PEARDBY),
@@ -421,7 +421,7 @@ fn coast_station() -> Station {
 // A ship asks a coast station who it is (02, T-06; 001, 3.7.13.2), by figures D β. CS2, by which it asks for the third block of the code,
 // is damaged once; the last block of the answer turns the direction back. Then it asks by D + ?, in figures still: an over stands in the
 // same block, so that the direction is kept, and TEA, which was offered at the coast station all along, goes out behind the answer.
-fn worked_answer(line: &mut Line) {
+fn worked_answer(line: &mut Room) {
     let mut pair = Pair {
         caller: Station::fresh_master(),
         called: coast_station(),
@@ -443,14 +443,14 @@ fn worked_answer(line: &mut Line) {
     );
 }
 
-fn put_slots(line: &mut Line, slots: usize) {
+fn put_slots(line: &mut Room, slots: usize) {
     filters::put_decimal(line, (slots / 2) as u64);
     line.put_all(b" positions, ");
     filters::put_decimal(line, slots as u64);
     line.put_all(b" slots");
 }
 
-fn put_sent(line: &mut Line, slot: Result<u8, SlotError>) {
+fn put_sent(line: &mut Room, slot: Result<u8, SlotError>) {
     match slot {
         Ok(word) => line.put_number(word),
         Err(SlotError::TooLong) => filters::put_refusal(line, 7, 8192),
@@ -460,29 +460,29 @@ fn put_sent(line: &mut Line, slot: Result<u8, SlotError>) {
 }
 
 // How long a sending is: no sending reaches slot 65,535, so it is refused with the number of slots.
-fn send_line(line: &mut Line, about: &[u8], text: &[u8]) {
+fn send_line(line: &mut Room, about: &[u8], text: &[u8]) {
     line.put_all(about);
     put_sent(line, sending::slot(text, 65535));
     line.put(10);
 }
 
-fn lengths(line: &mut Line) {
+fn lengths(line: &mut Room) {
     send_line(line, b"send no signals: ", b"");
     send_line(line, b"send 94 signals: ", &[71u8; 94]);
     send_line(line, b"send 95 signals: ", &[71u8; 95])
 }
 
-fn longer(line: &mut Line) {
+fn longer(line: &mut Room) {
     send_line(line, b"send 190 signals: ", &[71u8; 190]);
     send_line(line, b"send 191 signals: ", &[71u8; 191])
 }
 
-fn send_limits(line: &mut Line) {
+fn send_limits(line: &mut Room) {
     send_line(line, b"send 8192 signals: ", &[71u8; 8192]);
     send_line(line, b"send 8193 signals: ", &[71u8; 8193])
 }
 
-fn put_received(line: &mut Line, received: Result<Heard, BadReceiver>) {
+fn put_received(line: &mut Room, received: Result<Heard, BadReceiver>) {
     match received {
         Ok(_) => line.put_all(b"heard"),
         Err(_) => filters::put_refusal(line, 4, 0),
@@ -490,7 +490,7 @@ fn put_received(line: &mut Line, received: Result<Heard, BadReceiver>) {
 }
 
 // A receiver that no run of steps reaches.
-fn search_run_4(line: &mut Line) {
+fn search_run_4(line: &mut Room) {
     let receiver = Receiver {
         hearing: Hearing::Searching(4, Phasing::One),
     };
@@ -503,7 +503,7 @@ fn run(rt: HostRuntime) -> Result<(), ExitCode> {
     filters::no_words(rt, b"examples")?;
     // all lines, which come to less
     let mut room = [0u8; 5120];
-    let mut line = Line::new(&mut room);
+    let mut line = Room::new(&mut room);
     small_letter(&mut line);
     text(&mut line);
     encode_limits(&mut line);
@@ -521,11 +521,11 @@ fn run(rt: HostRuntime) -> Result<(), ExitCode> {
     send_limits(&mut line);
     search_run_4(&mut line);
     let mut output = [0u8; 5120];
-    let mut stream = Stream::new(rt, &mut [], &mut output);
+    let mut stream = Streams::new(rt, &mut [], &mut output);
     stream.put_all(line.bytes());
     stream.finish(b"examples")
 }
 
 fn main(rt: HostRuntime) -> ExitCode {
-    filters::status(run(rt))
+    filters::status_after(run(rt))
 }

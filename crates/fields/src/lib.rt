@@ -3,7 +3,7 @@
 #![tactic(auto)]
 
 use mode_a::{Place, Refused, Reply};
-use numbers::Line;
+use numbers::Room;
 use signals::Case;
 
 // KEPT: a record's byte is taken modulo the number of cases, which is the records' rule (docs/FORMATS.md) and no conversion of `Case`: a
@@ -16,7 +16,7 @@ pub fn case_of(byte: u8) -> Case {
     }
 }
 
-pub fn put_case(line: &mut Line, case: Case) {
+pub fn put_case(line: &mut Room, case: Case) {
     match case {
         Case::Letters => line.put_all(b" letters"),
         Case::Figures => line.put_all(b" figures"),
@@ -24,16 +24,16 @@ pub fn put_case(line: &mut Line, case: Case) {
 }
 
 // A space and the number.
-pub fn put_number(line: &mut Line, number: u8) {
+pub fn put_number(line: &mut Room, number: u8) {
     line.put(32);
     line.put_number(number);
 }
 
-pub fn put_flag(line: &mut Line, flag: bool) {
+pub fn put_flag(line: &mut Room, flag: bool) {
     line.put_all(if flag { b" 1" } else { b" 0" });
 }
 
-pub fn put_place(line: &mut Line, place: Place) {
+pub fn put_place(line: &mut Room, place: Place) {
     match place {
         Place::Sending(_) => line.put_all(b"sending"),
         Place::Turning(_) => line.put_all(b"turning"),

@@ -6,9 +6,9 @@
 ghost use Rattle.std.specs.Prelude.{◌≡◌, ◌≤◌, length, IfOk, IfErr};
 ghost use Rattle.std.specs.Process.{exit_status};
 ghost use Rattle.filters.specs.Counts.{IsPrefixLen};
-ghost use Rattle.filters.specs.Statuses.{status_of};
+ghost use Rattle.filters.specs.Statuses.{status_of, status_after};
 
-use numbers::{Line, NumberError, Reader};
+use numbers::{NumberError, Reader, Room};
 use std::env::{Env, FillError};
 use std::io::{Read, Write};
 use std::process::ExitCode;
@@ -22,21 +22,34 @@ pub enum State {
     Unwritten,
 }
 
-// A program's two streams, which go through two rooms that it lends: of the input room the next byte and the place past the
-// last; the reader of the numbers that the input lists; of the output room what waits to be written, and the words that stand on
-// the line that is written; and how it stands. The system, which reads and writes, takes no bytes.
-#[derive(Drop)]
-pub struct Stream<'a> {
+// How a program's two streams stand: in the input room the next byte and the place past the last; the reader of the numbers that
+// the input lists; the words that stand on the line that is written. What waits to be written is told by the output room. The
+// system, which reads and writes, takes no bytes.
+#[derive(Clone, Copy)]
+pub struct Stream {
     pub rt: HostRuntime,
     pub state: State,
+    pub next: usize,
+    pub end: usize,
+    pub reader: Reader,
+    pub column: usize,
+}
+
+// A program's two streams, which go through two rooms that it lends.
+#[derive(Drop)]
+pub struct Streams<'a> {
     input: &'a mut [u8],
-    next: usize,
-    end: usize,
-    reader: Reader,
-    output: Line<'a>,
-    column: usize,
-    ghost next_within: { next ≤ end },
-    ghost end_within: { end ≤ length input.now },
+    output: Room<'a>,
+    stands: Stream,
+    ghost next_within: { stands.next ≤ stands.end },
+    ghost end_within: { stands.end ≤ length input.now },
+}
+
+// How many numbers stand in a room, and what came behind them that is no number, if that ended them.
+#[derive(Clone, Copy, PartialEq, Eq)]
+pub struct Listed {
+    pub count: usize,
+    pub fault: Option<NumberError>,
 }
 
 // Writes the bytes, unless a write has failed; answers how the stream then stands.
@@ -47,30 +60,41 @@ fn write(rt: HostRuntime, state: State, bytes: &[u8]) -> State {
     state
 }
 
-impl<'a> Stream<'a> {
+impl<'a> Streams<'a> {
+    ghost use Rattle.filters.specs.Standing.{standing};
+
     // An output room that is too short for a word is as one that cannot be written, so that no byte is lost untold.
     pub fn new(rt: HostRuntime, input: &'a mut [u8], output: &'a mut [u8]) -> Self {
-        let output = Line::new(output);
+        let output = Room::new(output);
         let state = if output.fits_word() {
             State::Going
         } else {
             State::Unwritten
         };
-        Stream {
-            rt,
-            state,
+        Streams {
             input,
-            next: 0,
-            end: 0,
-            reader: Reader::new(),
             output,
-            column: 0,
+            stands: Stream {
+                rt,
+                state,
+                next: 0,
+                end: 0,
+                reader: Reader::new(),
+                column: 0,
+            },
         }
+    }
+
+    // How they stand now: what is answered does not go on with them.
+    pub fn stands(&self) -> Stream
+        ensures { result ≡ standing self.now }
+    {
+        self.stands // a copy
     }
 
     // Writes what waits.
     fn flush(&mut self) {
-        self.state = write(self.rt, self.state, self.output.bytes());
+        self.stands.state = write(self.stands.rt, self.stands.state, self.output.bytes());
         self.output.at = 0;
     }
 
@@ -78,32 +102,32 @@ impl<'a> Stream<'a> {
     // empty room, or a write has failed.
     fn refill(&mut self) {
         self.flush();
-        self.next = 0;
-        self.end = 0;
-        if self.state != State::Going {
+        self.stands.next = 0;
+        self.stands.end = 0;
+        if self.stands.state != State::Going {
             return;
         }
         if self.input.is_empty() {
-            self.state = State::Unread;
+            self.stands.state = State::Unread;
             return;
         }
-        match self.rt.stdin().read(self.input) {
-            Ok(0) => self.state = State::Over,
-            Ok(count) => self.end = count,
-            Err(_) => self.state = State::Unread,
+        match self.stands.rt.stdin().read(self.input) {
+            Ok(0) => self.stands.state = State::Over,
+            Ok(count) => self.stands.end = count,
+            Err(_) => self.stands.state = State::Unread,
         }
     }
 
     // The next byte of the input, if there is one more.
     fn byte(&mut self) -> Option<u8> {
-        if self.next == self.end {
+        if self.stands.next == self.stands.end {
             self.refill();
         }
-        if self.next == self.end {
+        if self.stands.next == self.stands.end {
             return None;
         }
-        let byte = self.input[self.next];
-        self.next += 1;
+        let byte = self.input[self.stands.next];
+        self.stands.next += 1;
         Some(byte)
     }
 
@@ -122,17 +146,20 @@ impl<'a> Stream<'a> {
 
     // Reads on in the block, up to what its bytes bring; nothing where they end before.
     fn scan(&mut self) -> Result<Option<u8>, NumberError> {
-        let mut reader = self.reader;
-        for (count, &byte) in self.input[self.next..self.end].iter().enumerate() {
+        let mut reader = self.stands.reader;
+        for (count, &byte) in self.input[self.stands.next..self.stands.end]
+            .iter()
+            .enumerate()
+        {
             let took = reader.take(byte);
             if took != Ok(None) {
-                self.reader = reader;
-                self.next += count + 1;
+                self.stands.reader = reader;
+                self.stands.next += count + 1;
                 return took;
             }
         }
-        self.reader = reader;
-        self.next = self.end;
+        self.stands.reader = reader;
+        self.stands.next = self.stands.end;
         Ok(None)
     }
 
@@ -145,10 +172,10 @@ impl<'a> Stream<'a> {
                 return Ok(found);
             }
             self.refill();
-            if self.end == 0 {
-                let reader = self.reader;
-                self.reader = Reader::new();
-                return Ok(if self.state == State::Unread {
+            if self.stands.end == 0 {
+                let reader = self.stands.reader;
+                self.stands.reader = Reader::new();
+                return Ok(if self.stands.state == State::Unread {
                     None
                 } else {
                     reader.end()
@@ -158,17 +185,27 @@ impl<'a> Stream<'a> {
         Ok(None)
     }
 
-    // Puts the numbers that come next into the room, until it is full or the input ends; answers how many.
-    fn numbers(&mut self, room: &mut [u8]) -> Result<usize, NumberError>
-        ensures { IfOk result (λ n. IsPrefixLen n room.new) }
+    // Puts the numbers that come next into the room, until it is full, the input ends, or something is no number; answers how many,
+    // whatever ended them.
+    pub fn numbers(&mut self, room: &mut [u8]) -> Listed
+        ensures { IsPrefixLen result.count room.new }
     {
         for (count, place) in room.iter_mut().enumerate() {
-            match self.number()? {
-                Some(word) => *place = word,
-                None => return Ok(count),
+            match self.number() {
+                Ok(Some(word)) => *place = word,
+                Ok(None) => return Listed { count, fault: None },
+                Err(error) => {
+                    return Listed {
+                        count,
+                        fault: Some(error),
+                    };
+                }
             }
         }
-        Ok(room.len())
+        Listed {
+            count: room.len(),
+            fault: None,
+        }
     }
 
     // Reads the list of a program that takes no words, as `numbers` does; what is no number and a failed read are told.
@@ -176,10 +213,10 @@ impl<'a> Stream<'a> {
         ensures count { IfOk result (λ n. IsPrefixLen n room.new) }
         ensures told { IfErr result (λ status. exit_status status ≡ 1) }
     {
-        let rt = self.rt;
-        let count = self
-            .numbers(room)
-            .map_err(|error| tell_number(rt, name, error))?;
+        let Listed { count, fault } = self.numbers(room);
+        if let Some(error) = fault {
+            return Err(tell_number(self.stands.rt, name, error));
+        }
         self.check(name)?;
         Ok(count)
     }
@@ -197,7 +234,7 @@ impl<'a> Stream<'a> {
         if self.has_room(bytes.len()) {
             self.output.put_all(bytes);
         } else {
-            self.state = write(self.rt, self.state, bytes);
+            self.stands.state = write(self.stands.rt, self.stands.state, bytes);
         }
     }
 
@@ -207,7 +244,7 @@ impl<'a> Stream<'a> {
     }
 
     // What stands on the line, and its end.
-    pub fn put_line(&mut self, mut line: Line) {
+    pub fn put_line(&mut self, mut line: Room) {
         line.put(10);
         self.put_all(line.bytes());
     }
@@ -217,14 +254,14 @@ impl<'a> Stream<'a> {
         if !self.output.fits_word() {
             self.flush();
         }
-        self.column = self.output.put_word(self.column, word);
+        self.stands.column = self.output.put_word(self.stands.column, word).column;
     }
 
     // Ends the line of words, if one has been begun.
     pub fn end_line(&mut self) {
-        if self.column != 0 {
+        if self.stands.column != 0 {
             self.put_all(b"\n");
-            self.column = 0;
+            self.stands.column = 0;
         }
     }
 
@@ -232,8 +269,8 @@ impl<'a> Stream<'a> {
     pub fn check(&self, name: &[u8]) -> Result<(), ExitCode>
         ensures { IfErr result (λ status. exit_status status ≡ 1) }
     {
-        if self.state == State::Unread {
-            return Err(tell(self.rt, name, b"cannot read standard input"));
+        if self.stands.state == State::Unread {
+            return Err(tell(self.stands.rt, name, b"cannot read standard input"));
         }
         Ok(())
     }
@@ -243,37 +280,48 @@ impl<'a> Stream<'a> {
         ensures { IfErr result (λ status. exit_status status ≡ 1) }
     {
         self.flush();
-        if self.state == State::Unwritten {
-            return Err(tell(self.rt, name, b"cannot write standard output"));
+        if self.stands.state == State::Unwritten {
+            return Err(tell(self.stands.rt, name, b"cannot write standard output"));
         }
         self.check(name)
     }
 }
 
 // A number's decimal digits.
-pub fn put_decimal(line: &mut Line, number: u64) {
+pub fn put_decimal(line: &mut Room, number: u64) {
     let mut digits = itoa::Buffer::new();
     line.put_all(digits.format(number).as_bytes());
 }
 
-// The status of a program (docs/FORMATS.md): 0, or that of what it has told.
-pub fn status(done: Result<(), ExitCode>) -> ExitCode
-    ensures { exit_status result ≡ status_of done }
+// The status of a program (docs/FORMATS.md) that has told nothing where all is well, and else has told what is not.
+pub fn status(well: bool) -> ExitCode
+    ensures { exit_status result ≡ status_of well }
+{
+    if well {
+        ExitCode::SUCCESS
+    } else {
+        ExitCode::FAILURE
+    }
+}
+
+// The status of a program that stops where it has told something: 0, or that of what it has told.
+pub fn status_after(done: Result<(), ExitCode>) -> ExitCode
+    ensures { exit_status result ≡ status_after done }
 {
     match done {
-        Ok(()) => ExitCode::SUCCESS,
+        Ok(()) => status(true),
         Err(status) => status,
     }
 }
 
 // Writes the line to standard error at once, so that programs of a pipe do not write into each other's; where that fails, it is told
 // nowhere. Answers the status that the program then ends with.
-fn tell_line(rt: HostRuntime, mut line: Line) -> ExitCode
+fn tell_line(rt: HostRuntime, mut line: Room) -> ExitCode
     ensures { exit_status result ≡ 1 }
 {
     line.put(10);
     let _ = rt.stderr().write_all(line.bytes());
-    ExitCode::FAILURE
+    status(false)
 }
 
 // Tells the words on a line of standard error, behind the program's name. The line has room for what is told here.
@@ -281,7 +329,7 @@ pub fn tell(rt: HostRuntime, name: &[u8], words: &[u8]) -> ExitCode
     ensures { exit_status result ≡ 1 }
 {
     let mut room = [0u8; 160];
-    let mut line = Line::new(&mut room);
+    let mut line = Room::new(&mut room);
     line.put_all(name);
     line.put_all(b": ");
     line.put_all(words);
@@ -293,7 +341,7 @@ pub fn tell_value(rt: HostRuntime, name: &[u8], before: &[u8], value: u64, after
     ensures { exit_status result ≡ 1 }
 {
     let mut room = [0u8; 160];
-    let mut line = Line::new(&mut room);
+    let mut line = Room::new(&mut room);
     line.put_all(name);
     line.put_all(b": ");
     line.put_all(before);
@@ -303,7 +351,7 @@ pub fn tell_value(rt: HostRuntime, name: &[u8], before: &[u8], value: u64, after
 }
 
 // The number and the value of a refusal.
-pub fn put_refusal(line: &mut Line, number: u8, value: u64) {
+pub fn put_refusal(line: &mut Room, number: u8, value: u64) {
     line.put_all(b"refused ");
     line.put_number(number);
     line.put(32);
@@ -322,7 +370,7 @@ pub fn tell_refusal(
     ensures { exit_status result ≡ 1 }
 {
     let mut room = [0u8; 160];
-    let mut line = Line::new(&mut room);
+    let mut line = Room::new(&mut room);
     line.put_all(name);
     line.put_all(b": ");
     put_refusal(&mut line, number, value);
@@ -362,7 +410,7 @@ pub fn no_words(rt: HostRuntime, name: &[u8]) -> Result<(), ExitCode>
         return Ok(());
     }
     let mut room = [0u8; 160];
-    let mut line = Line::new(&mut room);
+    let mut line = Room::new(&mut room);
     line.put_all(name);
     line.put_all(b": usage: ./telex ");
     line.put_all(name);

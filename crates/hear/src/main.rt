@@ -1,9 +1,9 @@
 // A fresh slave hears standard input, three bytes to a burst (docs/FORMATS.md; 01, Worked examples).
 #![tactic(auto)]
 
-use filters::{State, Stream};
+use filters::{State, Streams};
 use mode_a::{Offer, Station, Words};
-use numbers::Line;
+use numbers::Room;
 use signals::Case;
 use std::process::ExitCode;
 use text::{PrintError, Written};
@@ -13,7 +13,7 @@ const CROSS: u8 = 99;
 
 const QUERY: u8 = 114;
 
-fn put_name(line: &mut Line, word: u8) {
+fn put_name(line: &mut Room, word: u8) {
     match word {
         signals::CS1 => line.put_all(b"CS1"),
         signals::CS2 => line.put_all(b"CS2"),
@@ -29,7 +29,7 @@ fn put_name(line: &mut Line, word: u8) {
     }
 }
 
-fn put_next(line: &mut Line, word: u8) {
+fn put_next(line: &mut Room, word: u8) {
     if word != 0 {
         line.put(b'.');
         put_name(line, word);
@@ -37,7 +37,7 @@ fn put_next(line: &mut Line, word: u8) {
 }
 
 // The words sent, by name. Only silence begins with 0.
-fn put_sent(line: &mut Line, sent: Words) {
+fn put_sent(line: &mut Room, sent: Words) {
     if sent.0 == 0 {
         line.put_all(b"silent");
     } else {
@@ -48,7 +48,7 @@ fn put_sent(line: &mut Line, sent: Words) {
 }
 
 // The first `count` bytes in hexadecimal.
-fn put_bytes(line: &mut Line, bytes: [u8; 3], count: usize) {
+fn put_bytes(line: &mut Room, bytes: [u8; 3], count: usize) {
     if count == 0 {
         line.put_all(b"none");
     }
@@ -65,7 +65,7 @@ fn print(printed: Words, case: Case, room: &mut [u8]) -> Result<Written, PrintEr
 }
 
 // Prints the signals from the case, if there are any, and puts the bytes that they give; answers the case after them.
-fn put_printed(line: &mut Line, printed: Words, case: Case) -> Case {
+fn put_printed(line: &mut Room, printed: Words, case: Case) -> Case {
     let mut room = [0u8; 3];
     if printed.0 == 0 {
         put_bytes(line, room, 0);
@@ -91,11 +91,11 @@ struct Hearing {
 
 impl Hearing {
     // One step, and its line. No fresh slave without offers comes to a refusal.
-    fn hear(&mut self, stream: &mut Stream, burst: Words, step: u64) {
+    fn hear(&mut self, stream: &mut Streams, burst: Words, step: u64) {
         let reply = fields::reply_of(station::step(self.slave, burst, Offer::Nothing));
         self.slave = reply.station;
         let mut room = [0u8; 64];
-        let mut line = Line::new(&mut room);
+        let mut line = Room::new(&mut room);
         filters::put_decimal(&mut line, step);
         line.put(32);
         put_sent(&mut line, reply.sent);
@@ -109,7 +109,7 @@ fn run(rt: HostRuntime) -> Result<(), ExitCode> {
     filters::no_words(rt, b"hear")?;
     let mut input = [0u8; 4096];
     let mut output = [0u8; 4096];
-    let mut stream = Stream::new(rt, &mut input, &mut output);
+    let mut stream = Streams::new(rt, &mut input, &mut output);
     stream.put_all(b"step answer printed\n");
     let mut hearing = Hearing {
         slave: Station::fresh_slave(),
@@ -118,7 +118,7 @@ fn run(rt: HostRuntime) -> Result<(), ExitCode> {
     for step in 1..=u64::MAX {
         // a short last burst keeps its zeros, and one that a failed read has cut short is none
         let mut burst = [0u8; 3];
-        if stream.record(&mut burst) == 0 || stream.state == State::Unread {
+        if stream.record(&mut burst) == 0 || stream.stands().state == State::Unread {
             break;
         }
         hearing.hear(&mut stream, Words(burst[0], burst[1], burst[2]), step);
@@ -127,5 +127,5 @@ fn run(rt: HostRuntime) -> Result<(), ExitCode> {
 }
 
 fn main(rt: HostRuntime) -> ExitCode {
-    filters::status(run(rt))
+    filters::status_after(run(rt))
 }

@@ -62,7 +62,7 @@ fn reason(s: Station, burst: Words, offer: Offer) -> Reason
 
 // The reason for a station's answer to `burst`, with `offer` (02, T-08): the first of 02's list that holds. Refuses 8, then 4, then 9, then 3,
 // where the step of the same station, burst and offer is refused, by the same number and with the same value.
-#[tactic(auto, using(crate::proofs::RefusalLaws::refused_lem))]
+#[tactic(auto, using(crate::proofs::RefusalLaws::refused_lem, crate::proofs::RefusalLaws::by_call, crate::proofs::RefusalLaws::by_station, crate::proofs::RefusalLaws::by_code, crate::proofs::RefusalLaws::by_word))]
 pub fn why(s: Station, burst: Words, offer: Offer) -> Result<Reason, Refusal>
     ensures { Explains s burst offer result }
 {

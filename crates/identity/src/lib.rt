@@ -67,6 +67,14 @@ fn check_sum(x: u8, y: u8, z: u8) -> u8
     letters[sum as usize]
 }
 
+// One step of a search from the right for the first word outside table 3a: `place` where `word` is outside, else the answer for the
+// words behind it.
+pub fn outside(word: u8, place: usize, rest: usize) -> usize
+    ensures { result ≡ (if is_identity word then rest else place) }
+{
+    if may_identify(word) { rest } else { place }
+}
+
 // Seven identity signals (02, T-05; 001, 3.5.2). A station without such an identity has seven zeros.
 #[derive(Clone, Copy, PartialEq, Eq)]
 pub struct Seven(pub u8, pub u8, pub u8, pub u8, pub u8, pub u8, pub u8);
@@ -102,5 +110,13 @@ impl Seven {
             .iter()
             .position(|&word| !may_identify(word))
             .unwrap_or(7)
+    }
+
+    // Whether two identities are the same in each of the seven.
+    #[tactic(auto, unfolding(crate::specs::Sums::same_seven))]
+    pub fn same(self, other: Seven) -> bool
+        ensures { result ≡ same_seven self other }
+    {
+        self == other
     }
 }

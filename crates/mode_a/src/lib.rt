@@ -6,7 +6,7 @@ ghost use Rattle.std.specs.Prelude.{◌≡◌, ◌≤◌, ◌<◌, OnOk, IfErr};
 ghost use Rattle.signals.specs.Numbers.{first_not};
 ghost use Rattle.identity.specs.Table3.{is_identity};
 ghost use Rattle.mode_a.specs.Calls.{signals_of, call_block1, call_block2};
-ghost use Rattle.mode_a.specs.Station.{other, asks_for, mark_of, fresh_master, fresh_slave, first_burst, fresh_at, StandsBy, StandsByBoth};
+ghost use Rattle.mode_a.specs.Station.{other, same, asks_for, mark_of, fresh_master, fresh_slave, first_burst, fresh_at, StandsBy, StandsByBoth};
 ghost use Rattle.mode_a.specs.Heard.{may_hold};
 ghost use Rattle.mode_a.specs.Rows.{is_last};
 ghost use Rattle.mode_a.specs.Step.{TellsRefusal};
@@ -36,6 +36,12 @@ impl Number {
             Number::One => Number::Two,
             Number::Two => Number::One,
         }
+    }
+
+    pub fn same(self, number: Number) -> bool
+        ensures { result ≡ same self number }
+    {
+        self == number
     }
 
     // The control signal that asks for the block with this number.

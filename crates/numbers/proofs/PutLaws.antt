@@ -10,7 +10,7 @@ use lib.ListN.{length, length-append, get_or, take}
 use lib.Seq.{sets, length-sets, set_out, take-suc}
 use borrow.Author.Tests.{leb-true, leb-false}
 use Rattle.laws.proofs.Writes.{sets_append}
-use Rattle.numbers.specs.declared.Line.{Line}
+use Rattle.numbers.specs.declared.Room.{Room}
 use Rattle.numbers.specs.Writing.{Puts, PutsOn}
 
 -- past the end nothing is stored
@@ -41,13 +41,13 @@ puts_then {room} {at} {l} {m} {r} {r'} {mid} {after} p q =
           ∙ sets_append room at l m;
     }
 
--- the same of a line
-pub puts_on_none : (l : Line) → PutsOn l [] l
+-- the same of a `Room`
+pub puts_on_none : (l : Room) → PutsOn l [] l
 puts_on_none l = record { puts = puts_none l.room.now l.at; same_reference = refl }
 
-pub puts_on_then : {a b c : Line} {l m : List ℕ} → PutsOn a l b → PutsOn b m c → PutsOn a (l ++ m) c
+pub puts_on_then : {a b c : Room} {l m : List ℕ} → PutsOn a l b → PutsOn b m c → PutsOn a (l ++ m) c
 puts_on_then p q = record { puts = puts_then p.puts q.puts; same_reference = q.same_reference ∙ p.same_reference }
 
 -- one byte more of those that are put
-pub put_more : (a b c : Line) (bytes : List ℕ) (i : ℕ) → i < length bytes → PutsOn a (take i bytes) b → PutsOn b (get_or bytes i 0 ∷ []) c → PutsOn a (take (i + 1) bytes) c
+pub put_more : (a b c : Room) (bytes : List ℕ) (i : ℕ) → i < length bytes → PutsOn a (take i bytes) b → PutsOn b (get_or bytes i 0 ∷ []) c → PutsOn a (take (i + 1) bytes) c
 put_more a b c bytes i h p q = rw (add-one, take-suc bytes i 0 h) (puts_on_then p q)

@@ -2,6 +2,7 @@
 use Rattle.std.specs.Prelude.{◌≡◌, Bool, true, false, ◌||◌, List, [], ◌∷◌, ◌++◌, ℕ, ◌+◌, ◌-◌, ◌/◌, ◌%◌, min, eqb, leb, ltb, length, if◌then◌else◌}
 use Rattle.std.proofs.lemmas.List.Edits.{sets}
 use Rattle.numbers.specs.declared.Line.{Line}
+use Rattle.numbers.specs.declared.Room.{Room}
 
 -- Bytes stored into `room` from `at` on, and nothing else: `after` is what it then holds, and r the place past the last. Those for
 -- which there is no room are dropped: `sets` stores nothing past the end, and r counts only what was stored.
@@ -9,8 +10,8 @@ pub record Puts (room : List ℕ) (at : ℕ) (bytes : List ℕ) (r : ℕ) (after
   pub ended : r ≡ at + min (length bytes) (length room - at)
   pub holds : after ≡ sets room at bytes
 
--- The same of a line, before and after: it still lends the same room.
-pub record PutsOn (before : Line) (bytes : List ℕ) (after : Line) : Type 0 where
+-- The same of a `Room`, before and after: it still lends the same bytes.
+pub record PutsOn (before : Room) (bytes : List ℕ) (after : Room) : Type 0 where
   pub puts : Puts before.room.now before.at bytes after.at after.room.now
   pub same_reference : after.room.ghost_name ≡ before.room.ghost_name
 
@@ -80,11 +81,11 @@ unfoldable pub word_by_word : ℕ → List ℕ → List ℕ
 word_by_word column [] = feed_at_end column
 word_by_word column (w ∷ ws) = word_at column w ++ word_by_word (column_after column) ws
 
--- A word put into a room: the place past the word, and the column behind it.
-abbrev pub PutsWord : List ℕ → ℕ → ℕ → ℕ → ℕ → ℕ → List ℕ → Type 0
-PutsWord room at column word at' column' after = Puts room at (word_at column word) at' after × (column' ≡ column_after column)
+-- The promise of `put_word`.
+abbrev pub PutsWord : List ℕ → ℕ → ℕ → ℕ → Line → List ℕ → Type 0
+PutsWord room at column word r after = Puts room at (word_at column word) r.at after × (r.column ≡ column_after column)
 
 -- words put one by one, each where the one before it ended: the room, the place and the column before and after
 pub data PutsWords : (room : List ℕ) (at column : ℕ) → List ℕ → (after : List ℕ) (at' column' : ℕ) → Type 0 where
   none : {room : List ℕ} {at column : ℕ} → PutsWords room at column [] room at column
-  next : {room : List ℕ} {at column : ℕ} {w : ℕ} {ws : List ℕ} {to beside : ℕ} {mid after : List ℕ} {at' column' : ℕ} → PutsWord room at column w to beside mid → PutsWords mid to beside ws after at' column' → PutsWords room at column (w ∷ ws) after at' column'
+  next : {room : List ℕ} {at column : ℕ} {w : ℕ} {ws : List ℕ} {r : Line} {mid after : List ℕ} {at' column' : ℕ} → PutsWord room at column w r mid → PutsWords mid r.at r.column ws after at' column' → PutsWords room at column (w ∷ ws) after at' column'

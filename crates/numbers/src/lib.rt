@@ -5,7 +5,7 @@
 ghost use Rattle.std.specs.Prelude.{◌≡◌, [], ◌∷◌, ◌<◌, length, take};
 ghost use Rattle.numbers.specs.Reading.{is_white, is_digit};
 ghost use Rattle.numbers.specs.Steps.{fresh_reader, further, first_byte, end_brings, taking_digit, taking};
-ghost use Rattle.numbers.specs.Writing.{PutsOn, decimal, hex_digit, hexadecimal, space_before, word_at, column_after, fits_word};
+ghost use Rattle.numbers.specs.Writing.{PutsOn, decimal, hex_digit, hexadecimal, space_before, word_at, column_after, PutsWord, fits_word};
 
 // A number that has begun: the place of its first byte, and its value so far.
 #[derive(Clone, Copy, PartialEq, Eq)]
@@ -123,20 +123,27 @@ const LONGEST: usize = 5;
 // The column of a line's last word, counted from 0: a line has sixteen.
 const LAST_COLUMN: usize = 15;
 
+// The place past what was put, and the words that stand on the line.
+#[derive(Clone, Copy, PartialEq, Eq)]
+pub struct Line {
+    pub at: usize,
+    pub column: usize,
+}
+
 // Room that is lent, and the place of the next byte that is put into it. A full room takes no more: what finds none is dropped.
 #[derive(Drop)]
-pub struct Line<'a> {
+pub struct Room<'a> {
     pub room: &'a mut [u8],
     pub at: usize,
 }
 
-impl<'a> Line<'a> {
+impl<'a> Room<'a> {
     pub fn new(room: &'a mut [u8]) -> Self
         ensures same_reference { result.room.ghost_name ≡ room.entry.ghost_name }
         ensures same_bytes { result.room.now ≡ room.old }
         ensures at_start { result.at ≡ 0 }
     {
-        Line { room, at: 0 }
+        Room { room, at: 0 }
     }
 
     // The bytes that were put, as far as they found room.
@@ -200,18 +207,25 @@ impl<'a> Line<'a> {
         self.at <= self.room.len() && LONGEST <= self.room.len() - self.at
     }
 
-    // A word as it is written, sixteen to a line, where `column` words stand on the line already; answers how many then do.
-    pub fn put_word(&mut self, column: usize, word: u8) -> usize
+    // A word as it is written, sixteen to a line, where `column` words stand on the line already.
+    pub fn put_word(&mut self, column: usize, word: u8) -> Line
         ensures puts { PutsOn self.old (word_at column word) self.new }
-        ensures column { result ≡ column_after column }
+        ensures column { result.column ≡ column_after column }
+        ensures word { PutsWord self.old.room.now self.old.at column word result self.new.room.now }
     {
         self.put_space(column);
         self.put_number(word);
         if LAST_COLUMN <= column {
             self.put(10);
-            return 0;
+            return Line {
+                at: self.at,
+                column: 0,
+            };
         }
-        column + 1
+        Line {
+            at: self.at,
+            column: column + 1,
+        }
     }
 
     // Two capital hexadecimal digits.

@@ -2,14 +2,14 @@
 #![tactic(auto)]
 
 use entries::{PassError, Printed};
-use filters::Stream;
-use numbers::Line;
+use filters::Streams;
+use numbers::Room;
 use std::process::ExitCode;
 
 // What a station printed: its name, how many bytes, and these, which are the first of the room.
-fn put_station(stream: &mut Stream, name: &[u8], count: usize, room: &[u8]) {
+fn put_station(stream: &mut Streams, name: &[u8], count: usize, room: &[u8]) {
     let mut head = [0u8; 32];
-    let mut line = Line::new(&mut head);
+    let mut line = Room::new(&mut head);
     line.put_all(name);
     filters::put_decimal(&mut line, count as u64);
     stream.put_line(line);
@@ -24,7 +24,7 @@ fn refuse(rt: HostRuntime, number: &[u8], place: usize, words: &[u8]) -> Result<
 
 // What both printed written, or the refusal told.
 fn tell(
-    stream: &mut Stream,
+    stream: &mut Streams,
     answer: Result<Printed, PassError>,
     master: &[u8],
     slave: &[u8],
@@ -36,38 +36,38 @@ fn tell(
             stream.finish(b"passage")
         }
         Err(PassError::UnknownKind(place)) => refuse(
-            stream.rt,
+            stream.stands().rt,
             b"refused 10 ",
             place,
             b": no such kind",
         ),
         Err(PassError::CutShort(place)) => refuse(
-            stream.rt,
+            stream.stands().rt,
             b"refused 11 ",
             place,
             b": the body is cut short",
         ),
         Err(PassError::BadBurst(place)) => refuse(
-            stream.rt,
+            stream.stands().rt,
             b"refused 12 ",
             place,
             b": a burst out of turn, or bits 3 to 7 set",
         ),
         Err(PassError::StillOffered(place)) => refuse(
-            stream.rt,
+            stream.stands().rt,
             b"refused 13 ",
             place,
             b": the last offer is not taken yet",
         ),
         Err(PassError::BadWord(place)) => refuse(
-            stream.rt,
+            stream.stands().rt,
             b"refused 3 ",
             place,
             b": a word that is neither traffic nor beta",
         ),
         // not reached: no record that is not too long needs more
         Err(PassError::NoRoom(needed)) => Err(filters::tell_refusal(
-            stream.rt,
+            stream.stands().rt,
             b"passage",
             2,
             needed as u64,
@@ -82,7 +82,7 @@ fn run(rt: HostRuntime) -> Result<(), ExitCode> {
     filters::no_words(rt, b"passage")?;
     let mut input = [0u8; 4096];
     let mut output = [0u8; 4096];
-    let mut stream = Stream::new(rt, &mut input, &mut output);
+    let mut stream = Streams::new(rt, &mut input, &mut output);
     // one byte over the limit is enough to tell
     let mut record = [0u8; 262145];
     let count = stream.record(&mut record);
@@ -97,5 +97,5 @@ fn run(rt: HostRuntime) -> Result<(), ExitCode> {
 }
 
 fn main(rt: HostRuntime) -> ExitCode {
-    filters::status(run(rt))
+    filters::status_after(run(rt))
 }

@@ -1,5 +1,6 @@
 -- The call's answer and rooms, by what the record leads to: judged by the first walk, and written by the second. Assumes nothing.
 use mathlib.Core.Path.{◌≡◌, refl, ap, sym, ◌∙◌}
+use mathlib.Core.Bool.{true}
 use mathlib.Core.List.{List}
 use Prim.Native.Nat.{ℕ, ◌≤◌, ◌<◌}
 use lib.ListN.{length}
@@ -64,7 +65,7 @@ module _ (m s : List ℕ) where
 
   written : (o : Outcome) (q : Passage) → ((p : Passage) → o ≡ told p → q ≡ p) → (k : Printed) → said_passed (Ok k) ≡ said_of o →
       k.master ≤ length m → k.slave ≤ length s → (r : Passed) (m' s' : List ℕ) → said_passed r ≡ said_of o →
-      m' ≡ wrote_in (text_of q Master) m → s' ≡ wrote_in (text_of q Slave) s → Passes' o m s r m' s'
+      m' ≡ wrote_in true (text_of q Master) m → s' ≡ wrote_in true (text_of q Slave) s → Passes' o m s r m' s'
   written (told p) q is k e f h r m' s' says a b =
       let n : length (text_of p Master) ≤ length m = omega (arith, (as_counted p k e).0, f) in
       let l : length (text_of p Slave) ≤ length s = omega (arith, (as_counted p k e).1, h) in
@@ -93,7 +94,7 @@ module _ (bytes : List ℕ) (at : ℕ) (m s : List ℕ) where
     no_slave_room f h = short_slave m s (outcome_from bytes at) k e f h
 
     -- or does, and the second walk writes it
-    pub passes_written : k.master ≤ length m → k.slave ≤ length s → (r : Passed) (m' s' : List ℕ) → Walks bytes at m s r m' s' → PassesFrom bytes at m s r m' s'
+    pub passes_written : k.master ≤ length m → k.slave ≤ length s → (r : Passed) (m' s' : List ℕ) → Walks true bytes at m s r m' s' → PassesFrom bytes at m s r m' s'
     unfolding passing_from
     passes_written f h r m' s' w =
         written m s (outcome_from bytes at) (passage_from bytes at) (told_from bytes at) k e f h r m' s' w.0 w.1 w.2

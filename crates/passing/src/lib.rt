@@ -6,18 +6,18 @@ ghost use Rattle.entries.specs.Passing.{PassesFrom, Passes};
 
 use entries::{PassError, Printed, Reader};
 
-// Runs over the record from where the reader stands: judged first, without a room, and then printed.
+// Runs over the record from where the reader stands: judged first, and then printed.
 fn run(reader: Reader<'_>, master: &mut [u8], slave: &mut [u8]) -> Result<Printed, PassError>
     ensures { PassesFrom reader.entry.bytes.now reader.entry.at master.old slave.old result master.new slave.new }
 {
-    let needed = walking::walked(reader, &mut [], &mut [])?;
+    let needed = walking::walked(reader, master, slave, false)?;
     if master.len() < needed.master {
         return Err(PassError::NoRoom(needed.master));
     }
     if slave.len() < needed.slave {
         return Err(PassError::NoRoom(needed.slave));
     }
-    walking::walked(reader, master, slave)
+    walking::walked(reader, master, slave, true)
 }
 
 // Runs a fresh master and a fresh slave over `bytes`, a record (02, T-07), and prints what each received into `master` and into `slave`:

@@ -1,14 +1,14 @@
 // Prints the signals that standard input lists as numbers, from letters case (docs/FORMATS.md).
 #![tactic(auto)]
 
-use filters::Stream;
+use filters::Streams;
 use signals::Case;
 use std::process::ExitCode;
 use text::{PrintError, Written};
 
 // The bytes written, or the refusal told.
 fn tell(
-    stream: &mut Stream,
+    stream: &mut Streams,
     answer: Result<Written, PrintError>,
     room: &[u8],
 ) -> Result<(), ExitCode> {
@@ -18,7 +18,7 @@ fn tell(
             stream.finish(b"print")
         }
         Err(PrintError::TooLong) => Err(filters::tell_refusal(
-            stream.rt,
+            stream.stands().rt,
             b"print",
             7,
             8192,
@@ -26,7 +26,7 @@ fn tell(
             b" signals",
         )),
         Err(PrintError::BadWord(index)) => Err(filters::tell_refusal(
-            stream.rt,
+            stream.stands().rt,
             b"print",
             3,
             index as u64,
@@ -35,7 +35,7 @@ fn tell(
         )),
         // not reached: no list that is not too long needs more
         Err(PrintError::NoRoom(needed)) => Err(filters::tell_refusal(
-            stream.rt,
+            stream.stands().rt,
             b"print",
             2,
             needed as u64,
@@ -49,7 +49,7 @@ fn run(rt: HostRuntime) -> Result<(), ExitCode> {
     filters::no_words(rt, b"print")?;
     let mut input = [0u8; 4096];
     let mut output = [0u8; 4096];
-    let mut stream = Stream::new(rt, &mut input, &mut output);
+    let mut stream = Streams::new(rt, &mut input, &mut output);
     // one signal over the limit is enough to refuse
     let mut words = [0u8; 8193];
     let count = stream.list(b"print", &mut words)?;
@@ -59,5 +59,5 @@ fn run(rt: HostRuntime) -> Result<(), ExitCode> {
 }
 
 fn main(rt: HostRuntime) -> ExitCode {
-    filters::status(run(rt))
+    filters::status_after(run(rt))
 }

@@ -6,6 +6,7 @@
 ghost use Rattle.std.specs.Prelude.{true, ◌≡◌, ◌+◌, ◌≤◌, List, ℕ, Err, IsOk, IfOk, IfErr, length, drop};
 ghost use Rattle.signals.specs.declared.Case.{Case};
 ghost use Rattle.signals.specs.declared.Case.TheVariants.{Letters, Figures};
+ghost use Rattle.signals.specs.Cases.{other, shift_to};
 ghost use Rattle.signals.specs.Numbers.{first_not};
 ghost use Rattle.text.specs.Printing.{may_print, bytes_of, printed, Prints};
 ghost use Rattle.printing.specs.Glyph.{column, put_of};
@@ -82,6 +83,13 @@ pub fn glyph(case: Case, word: u8) -> u8
     column_of(case, rows[place])
 }
 
+// The shift that leaves a case.
+fn leaving(case: Case) -> u8
+    ensures { result ≡ shift_to (other case) }
+{
+    case.other().shift()
+}
+
 // Prints the words from `at` on, into the room from `to` on, up to the shift that leaves the case, if one comes: it stands at
 // that shift then, still in the case of the run.
 fn print_run(case: Case, judged: Judged, at: usize, room: &mut [u8], to: usize) -> Reached
@@ -93,7 +101,7 @@ fn print_run(case: Case, judged: Judged, at: usize, room: &mut [u8], to: usize) 
         let word = judged.words[i];
         let byte = glyph(case, word);
         if byte == 0 {
-            if word == case.other().shift() {
+            if word == leaving(case) {
                 return Reached {
                     at: i,
                     to: next,
@@ -180,7 +188,8 @@ fn measure(judged: Judged, places: usize) -> Result<(), PrintError>
     ensures ok { IsOk result → (c : Case) → length (printed c judged.entry.words.now) ≤ places }
     ensures err { IfErr result (λ e. (c : Case) (room : List ℕ) → length room ≡ places → Prints judged.entry.words.now c room (Err e) room) }
 {
-    if places < judged.words.len() {
+    let short = places < judged.words.len();
+    if short {
         let need = judging::needed(judged.words);
         if places < need {
             return Err(PrintError::NoRoom(need));

@@ -11,8 +11,9 @@ use Rattle.std.specs.Prelude.{if◌then◌else◌, Option, Some, None, Result, O
 use Rattle.laws.proofs.Unique.{unique, unique_by}
 use Rattle.numbers.specs.declared.Reader.{Reader}
 use Rattle.numbers.specs.declared.Line.{Line}
+use Rattle.numbers.specs.declared.Room.{Room}
 use Rattle.numbers.specs.Steps.{Event, fresh_reader, taking, end_brings}
-use Rattle.numbers.specs.Writing.{PutsOn, decimal, hexadecimal, word_at, column_after, fits_word}
+use Rattle.numbers.specs.Writing.{PutsOn, PutsWord, decimal, hexadecimal, word_at, fits_word}
 use Rattle.signals.specs.declared.Case.{Case}
 use Rattle.signals.specs.declared.Row.{Row}
 use Rattle.signals.specs.Meaning.{traffic_of, cs4}
@@ -130,7 +131,7 @@ put_back (suc g) = refl
 pub glyph_unique : (c : Case) (w : ℕ) (r r' : ℕ) → put_of r ≡ bytes_of c w → put_of r' ≡ bytes_of c w → r ≡ r'
 glyph_unique c w r r' p q = unique_by put_of byte_in put_back p q
 
--- `identity::may_identify`, one step of a search for the first signal outside table 3a, the functions of `Seven`, and `==` on it
+-- `identity::may_identify`, `identity::outside`, and the functions of `Seven`
 pub may_identify_unique : (w : ℕ) (r r' : Bool) → r ≡ is_identity w → r' ≡ is_identity w → r ≡ r'
 may_identify_unique w r r' p q = unique p q
 
@@ -180,7 +181,7 @@ block_2_unique i r r' p q = unique p q
 pub first_outside_unique : (i : Identity) (r r' : ℕ) → r ≡ first_not is_identity (signals_of i) → r' ≡ first_not is_identity (signals_of i) → r ≡ r'
 first_outside_unique i r r' p q = unique p q
 
--- `==` on `Words`, and `table::row_no`, `table::kind_of`, `table::column_of`, `table::action_at`
+-- `table::is_words`, `table::row_no`, `table::kind_of`, `table::column_of`, `table::action_at`
 pub is_words_unique : (b : Words) (x y z : ℕ) (r r' : Bool) → r ≡ is_words b (words x y z) → r' ≡ is_words b (words x y z) → r ≡ r'
 is_words_unique b x y z r r' p q = unique p q
 
@@ -419,39 +420,43 @@ take_unique self byte r r' after after' p q p' q' = (unique p p', unique q q')
 pub end_unique : (self : Reader) (r r' : Option ℕ) → r ≡ end_brings self → r' ≡ end_brings self → r ≡ r'
 end_unique self r r' p q = unique p q
 
--- `numbers::Line`: of what a line is afterwards, the place, the bytes of the room, and that it is the same room
-pub record SameLine (l m : Line) : Type 0 where
+-- `numbers::Room`: of what a room is afterwards, the place, its bytes, and that they are lent from the same place
+pub record SameRoom (l m : Room) : Type 0 where
   pub at : l.at ≡ m.at
   pub bytes : l.room.now ≡ m.room.now
   pub same_reference : l.room.ghost_name ≡ m.room.ghost_name
 
-pub line_new_unique : (l r r' : Line) → r.room.ghost_name ≡ l.room.ghost_name → r.room.now ≡ l.room.now → r.at ≡ 0 → r'.room.ghost_name ≡ l.room.ghost_name → r'.room.now ≡ l.room.now → r'.at ≡ 0 → SameLine r r'
-line_new_unique l r r' n b a n' b' a' = record { at = unique a a'; bytes = unique b b'; same_reference = unique n n' }
+pub room_new_unique : (l r r' : Room) → r.room.ghost_name ≡ l.room.ghost_name → r.room.now ≡ l.room.now → r.at ≡ 0 → r'.room.ghost_name ≡ l.room.ghost_name → r'.room.now ≡ l.room.now → r'.at ≡ 0 → SameRoom r r'
+room_new_unique l r r' n b a n' b' a' = record { at = unique a a'; bytes = unique b b'; same_reference = unique n n' }
 
-puts_unique : (l : Line) (bytes : List ℕ) (r r' : Line) → PutsOn l bytes r → PutsOn l bytes r' → SameLine r r'
+puts_unique : (l : Room) (bytes : List ℕ) (r r' : Room) → PutsOn l bytes r → PutsOn l bytes r' → SameRoom r r'
 puts_unique l bytes r r' p q =
     record { at = unique p.puts.ended q.puts.ended; bytes = unique p.puts.holds q.puts.holds; same_reference = unique p.same_reference q.same_reference }
 
-pub bytes_unique : (l : Line) (r r' : List ℕ) → r ≡ take l.at l.room.now → r' ≡ take l.at l.room.now → r ≡ r'
+pub bytes_unique : (l : Room) (r r' : List ℕ) → r ≡ take l.at l.room.now → r' ≡ take l.at l.room.now → r ≡ r'
 bytes_unique l r r' p q = unique p q
 
-pub put_unique : (l : Line) (byte : ℕ) (r r' : Line) → PutsOn l (byte ∷ []) r → PutsOn l (byte ∷ []) r' → SameLine r r'
+pub put_unique : (l : Room) (byte : ℕ) (r r' : Room) → PutsOn l (byte ∷ []) r → PutsOn l (byte ∷ []) r' → SameRoom r r'
 put_unique l byte r r' p q = puts_unique l (byte ∷ []) r r' p q
 
-pub put_all_unique : (l : Line) (bytes : List ℕ) (r r' : Line) → PutsOn l bytes r → PutsOn l bytes r' → SameLine r r'
+pub put_all_unique : (l : Room) (bytes : List ℕ) (r r' : Room) → PutsOn l bytes r → PutsOn l bytes r' → SameRoom r r'
 put_all_unique l bytes r r' p q = puts_unique l bytes r r' p q
 
-pub put_number_unique : (l : Line) (number : ℕ) (r r' : Line) → PutsOn l (decimal number) r → PutsOn l (decimal number) r' → SameLine r r'
+pub put_number_unique : (l : Room) (number : ℕ) (r r' : Room) → PutsOn l (decimal number) r → PutsOn l (decimal number) r' → SameRoom r r'
 put_number_unique l number r r' p q = puts_unique l (decimal number) r r' p q
 
-pub put_hex_unique : (l : Line) (byte : ℕ) (r r' : Line) → PutsOn l (hexadecimal byte) r → PutsOn l (hexadecimal byte) r' → SameLine r r'
+pub put_hex_unique : (l : Room) (byte : ℕ) (r r' : Room) → PutsOn l (hexadecimal byte) r → PutsOn l (hexadecimal byte) r' → SameRoom r r'
 put_hex_unique l byte r r' p q = puts_unique l (hexadecimal byte) r r' p q
 
 pub fits_word_unique : (size at : ℕ) (r r' : Bool) → r ≡ fits_word size at → r' ≡ fits_word size at → r ≡ r'
 fits_word_unique size at r r' p q = unique p q
 
-pub put_word_unique : (l : Line) (column word : ℕ) (r r' : ℕ) (after after' : Line) → PutsOn l (word_at column word) after → r ≡ column_after column → PutsOn l (word_at column word) after' → r' ≡ column_after column → (r ≡ r') × SameLine after after'
-put_word_unique l column word r r' after after' p q p' q' = (unique q q', puts_unique l (word_at column word) after after' p p')
+pub put_word_unique : (room : List ℕ) (at column word : ℕ) (r r' : Line) (after after' : List ℕ) → PutsWord room at column word r after → PutsWord room at column word r' after' → (r ≡ r') × (after ≡ after')
+put_word_unique room at column word r r' after after' p q =
+    (λ i. record { at = unique p.0.ended q.0.ended i; column = unique p.1 q.1 i }, unique p.0.holds q.0.holds)
+
+pub put_word_same_room : (l : Room) (column word : ℕ) (r r' : Room) → PutsOn l (word_at column word) r → PutsOn l (word_at column word) r' → SameRoom r r'
+put_word_same_room l column word r r' p q = puts_unique l (word_at column word) r r' p q
 
 -- `entries::other`, `entries::same`, `Reader::next_entry`
 pub other_role_unique : (role r r' : Role) → r ≡ other_role role → r' ≡ other_role role → r ≡ r'
@@ -492,8 +497,8 @@ next_entry_unique bytes at r r' b b' past past' p q =
     )
 
 -- `typing::put`: the answer, and the lent room
-pub put_signals_unique : (ws : Words) (t : Typed) (room : List ℕ) (r r' : Typed) (after after' : List ℕ) → Types (signals_in ws) t room r after → Types (signals_in ws) t room r' after' → (r ≡ r') × (after ≡ after')
-put_signals_unique ws t room r r' after after' p q = (unique p.0 q.0, unique p.1 q.1)
+pub put_signals_unique : (ws : Words) (t : Typed) (write : Bool) (room : List ℕ) (r r' : Typed) (after after' : List ℕ) → Types (signals_in ws) t write room r after → Types (signals_in ws) t write room r' after' → (r ≡ r') × (after ≡ after')
+put_signals_unique ws t write room r r' after after' p q = (unique p.0 q.0, unique p.1 q.1)
 
 -- `telling::first`, `hearing`, `offer_to`, `offered`, `says`, `damaged`
 pub first_unique : (r r' : Standing) → r ≡ begins.standing → r' ≡ begins.standing → r ≡ r'
@@ -547,6 +552,6 @@ goes_unique s e p stands r r' g g' =
     (unique (g p stands).state_is (g' p stands).state_is, λ by. append_cancel_left (signals_by p by) (prints_by r by) (prints_by r' by) (sym ((g p stands).prints by) ∙ (g' p stands).prints by))
 
 -- `walking::walked`: the answer, and the two lent rooms
-pub walked_unique : (bytes : List ℕ) (from : ℕ) (m s : List ℕ) (r r' : Passed) (m' m'' s' s'' : List ℕ) → Walks bytes from m s r m' s' → Walks bytes from m s r' m'' s'' → (r ≡ r') × (m' ≡ m'') × (s' ≡ s'')
-walked_unique bytes from m s r r' m' m'' s' s'' p q =
+pub walked_unique : (write : Bool) (bytes : List ℕ) (from : ℕ) (m s : List ℕ) (r r' : Passed) (m' m'' s' s'' : List ℕ) → Walks write bytes from m s r m' s' → Walks write bytes from m s r' m'' s'' → (r ≡ r') × (m' ≡ m'') × (s' ≡ s'')
+walked_unique write bytes from m s r r' m' m'' s' s'' p q =
     (unique_by said_passed passed_from passed_back p.0 q.0, unique p.1 q.1, unique p.2 q.2)

@@ -1,13 +1,13 @@
 // A fresh receiver of mode B hears the words that standard input lists as numbers, and writes what it prints (docs/FORMATS.md).
 #![tactic(auto)]
 
-use filters::Stream;
+use filters::Streams;
 use mode_b::Receiver;
 use numbers::NumberError;
 use std::process::ExitCode;
 
 // Hears the words up to the end of the input, or up to what is no number.
-fn hear(stream: &mut Stream) -> Result<(), NumberError> {
+fn hear(stream: &mut Streams) -> Result<(), NumberError> {
     let mut receiver = Receiver::fresh();
     for _ in 0..u64::MAX {
         let Some(word) = stream.number()? else {
@@ -32,7 +32,7 @@ fn run(rt: HostRuntime) -> Result<(), ExitCode> {
     filters::no_words(rt, b"receive")?;
     let mut input = [0u8; 4096];
     let mut output = [0u8; 4096];
-    let mut stream = Stream::new(rt, &mut input, &mut output);
+    let mut stream = Streams::new(rt, &mut input, &mut output);
     let heard = hear(&mut stream);
     stream.end_line();
     stream.finish(b"receive")?;
@@ -40,5 +40,5 @@ fn run(rt: HostRuntime) -> Result<(), ExitCode> {
 }
 
 fn main(rt: HostRuntime) -> ExitCode {
-    filters::status(run(rt))
+    filters::status_after(run(rt))
 }

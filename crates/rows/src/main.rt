@@ -1,13 +1,13 @@
 // Writes the table of actions, a line a cell, then the kind of each burst of three bytes that it reads (docs/FORMATS.md).
 #![tactic(auto)]
 
-use filters::Stream;
+use filters::Streams;
 use identity::Seven;
 use mode_a::{
     Called, Called3, Ended, Gathered, Held, Identified, Identity, Mark, Number, Place, Stage,
     Succession, Waiting, Words,
 };
-use numbers::Line;
+use numbers::Room;
 use std::process::ExitCode;
 use table::{Action, Kind};
 
@@ -99,7 +99,7 @@ const KIND_NAMES: [&[u8]; 18] = [
 
 // A space and the kind.
 #[tactic(auto, using(crate::proofs::Columns::column_lt))]
-fn put_kind(line: &mut Line, kind: Kind) {
+fn put_kind(line: &mut Room, kind: Kind) {
     line.put(32);
     line.put_all(KIND_NAMES[table::column_of(kind)]);
 }
@@ -146,24 +146,24 @@ fn name_of(action: Action) -> &'static [u8] {
 }
 
 // A space and the action.
-fn put_action(line: &mut Line, action: Action) {
+fn put_action(line: &mut Room, action: Action) {
     line.put(32);
     line.put_all(name_of(action));
 }
 
-fn put_cell(stream: &mut Stream, place: Place, kind: Kind) {
+fn put_cell(stream: &mut Streams, place: Place, kind: Kind) {
     let mut room = [0u8; 64];
-    let mut line = Line::new(&mut room);
+    let mut line = Room::new(&mut room);
     fields::put_place(&mut line, place);
     put_kind(&mut line, kind);
     put_action(&mut line, table::action_at(place, kind));
     stream.put_line(line);
 }
 
-fn put_heard(stream: &mut Stream, burst: [u8; 3]) {
+fn put_heard(stream: &mut Streams, burst: [u8; 3]) {
     let [one, two, three] = burst;
     let mut room = [0u8; 64];
-    let mut line = Line::new(&mut room);
+    let mut line = Room::new(&mut room);
     line.put_number(one);
     fields::put_number(&mut line, two);
     fields::put_number(&mut line, three);
@@ -176,7 +176,7 @@ fn run(rt: HostRuntime) -> Result<(), ExitCode> {
     filters::no_words(rt, b"rows")?;
     let mut input = [0u8; 4096];
     let mut output = [0u8; 4096];
-    let mut stream = Stream::new(rt, &mut input, &mut output);
+    let mut stream = Streams::new(rt, &mut input, &mut output);
     for place in PLACES {
         for kind in KINDS {
             put_cell(&mut stream, place, kind);
@@ -193,5 +193,5 @@ fn run(rt: HostRuntime) -> Result<(), ExitCode> {
 }
 
 fn main(rt: HostRuntime) -> ExitCode {
-    filters::status(run(rt))
+    filters::status_after(run(rt))
 }

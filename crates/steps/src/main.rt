@@ -1,13 +1,13 @@
 // One step a record of a station that is written out, so that stations can be tried that no run reaches (docs/FORMATS.md).
 #![tactic(auto)]
 
-use filters::Stream;
+use filters::Streams;
 use identity::Seven;
 use mode_a::{
     Identity, Mark, Number, Owed, Peer, Place, Refused, Reply, Role, Stage, Station, Succession,
     Words,
 };
-use numbers::Line;
+use numbers::Room;
 use std::process::ExitCode;
 
 // What a line shows of a place after its name, and of a call at its end: 0 for a field that the place does not carry.
@@ -55,20 +55,20 @@ const NOT_TOLD: TellFields = TellFields {
     signals: Seven(0, 0, 0, 0, 0, 0, 0),
 };
 
-fn put_words(line: &mut Line, words: Words) {
+fn put_words(line: &mut Room, words: Words) {
     fields::put_number(line, words.0);
     fields::put_number(line, words.1);
     fields::put_number(line, words.2);
 }
 
-fn put_identity(line: &mut Line, identity: Identity) {
+fn put_identity(line: &mut Room, identity: Identity) {
     fields::put_number(line, identity.0);
     fields::put_number(line, identity.1);
     fields::put_number(line, identity.2);
     fields::put_number(line, identity.3);
 }
 
-fn put_seven(line: &mut Line, seven: Seven) {
+fn put_seven(line: &mut Room, seven: Seven) {
     put_words(line, Words(seven.0, seven.1, seven.2));
     put_words(line, Words(seven.3, seven.4, seven.5));
     fields::put_number(line, seven.6);
@@ -198,7 +198,7 @@ fn tell_fields_of(place: Place) -> TellFields {
     }
 }
 
-fn put_station(line: &mut Line, s: Station) {
+fn put_station(line: &mut Room, s: Station) {
     let shown = fields_of(s.place);
     fields::put_place(line, s.place);
     fields::put_number(line, shown.number);
@@ -209,7 +209,7 @@ fn put_station(line: &mut Line, s: Station) {
     fields::put_flag(line, s.plus);
 }
 
-fn put_role(line: &mut Line, role: Role) {
+fn put_role(line: &mut Room, role: Role) {
     match role {
         Role::Master => line.put_all(b" master"),
         Role::Slave => line.put_all(b" slave"),
@@ -221,7 +221,7 @@ fn first_four(seven: Seven) -> Identity {
     Identity(seven.0, seven.1, seven.2, seven.3)
 }
 
-fn put_other(line: &mut Line, other: Peer) {
+fn put_other(line: &mut Room, other: Peer) {
     match other {
         Peer::Nobody => line.put_all(b" nobody 0 0 0 0"),
         Peer::Four(identity) => {
@@ -249,13 +249,13 @@ fn last_three(other: Peer) -> Words {
 }
 
 // A part of the line that is three words.
-fn put_part(line: &mut Line, words: Words) {
+fn put_part(line: &mut Room, words: Words) {
     line.put_all(b" |");
     put_words(line, words);
 }
 
 // The role, what the place has of a call, and who is at the other end.
-fn put_calls(line: &mut Line, s: Station) {
+fn put_calls(line: &mut Room, s: Station) {
     let shown = call_fields_of(s.place);
     line.put_all(b" |");
     put_role(line, s.role);
@@ -266,7 +266,7 @@ fn put_calls(line: &mut Line, s: Station) {
 }
 
 // What the place has of identification, and the last three signals of who is at the other end.
-fn put_told(line: &mut Line, s: Station) {
+fn put_told(line: &mut Room, s: Station) {
     let shown = tell_fields_of(s.place);
     line.put_all(b" |");
     fields::put_number(line, shown.heard3);
@@ -278,7 +278,7 @@ fn put_told(line: &mut Line, s: Station) {
 }
 
 // What is owed of an answer.
-fn put_owed(line: &mut Line, owed: Owed) {
+fn put_owed(line: &mut Room, owed: Owed) {
     match owed {
         Owed::Nothing => line.put_all(b" | none 0"),
         Owed::Back(index) => {
@@ -292,7 +292,7 @@ fn put_owed(line: &mut Line, owed: Owed) {
     }
 }
 
-fn put_reply(line: &mut Line, reply: Reply) {
+fn put_reply(line: &mut Room, reply: Reply) {
     put_station(line, reply.station);
     put_part(line, reply.sent);
     put_part(line, reply.printed);
@@ -303,7 +303,7 @@ fn put_reply(line: &mut Line, reply: Reply) {
     put_owed(line, reply.station.owed);
 }
 
-fn put_answer(line: &mut Line, stepped: Result<Reply, Refused>) {
+fn put_answer(line: &mut Room, stepped: Result<Reply, Refused>) {
     match stepped {
         Ok(reply) => put_reply(line, reply),
         Err(refused) => {
@@ -313,7 +313,7 @@ fn put_answer(line: &mut Line, stepped: Result<Reply, Refused>) {
     }
 }
 
-fn answer(stream: &mut Stream, record: &[u8; 84]) {
+fn answer(stream: &mut Streams, record: &[u8; 84]) {
     let stepped = station::step(
         written::station_of(record),
         written::burst_of(record),
@@ -321,7 +321,7 @@ fn answer(stream: &mut Stream, record: &[u8; 84]) {
     );
     // no line comes to be full
     let mut room = [0u8; 224];
-    let mut line = Line::new(&mut room);
+    let mut line = Room::new(&mut room);
     put_answer(&mut line, stepped);
     stream.put_line(line);
 }
@@ -331,7 +331,7 @@ fn run(rt: HostRuntime) -> Result<(), ExitCode> {
     filters::no_words(rt, b"steps")?;
     let mut input = [0u8; 4096];
     let mut output = [0u8; 4096];
-    let mut stream = Stream::new(rt, &mut input, &mut output);
+    let mut stream = Streams::new(rt, &mut input, &mut output);
     let mut record = [0u8; 84];
     for _ in 0..u64::MAX {
         if stream.record(&mut record) != 84 {
@@ -343,5 +343,5 @@ fn run(rt: HostRuntime) -> Result<(), ExitCode> {
 }
 
 fn main(rt: HostRuntime) -> ExitCode {
-    filters::status(run(rt))
+    filters::status_after(run(rt))
 }

@@ -92,6 +92,14 @@ pub enum Action {
     Gather,
 }
 
+// Whether a burst is these three words.
+#[tactic(auto, unfolding(mode_a::specs::Heard::is_words))]
+pub fn is_words(b: Words, x: u8, y: u8, z: u8) -> bool
+    ensures { result ≡ is_words b (words x y z) }
+{
+    b == Words(x, y, z)
+}
+
 // The second word is looked at first: a control signal has 0 behind it, and such a burst is done with at once.
 #[tactic(auto, using(crate::proofs::KindLaws::no_block_at_0), unfolding(mode_a::specs::Heard::is_block))]
 fn is_block(b: Words) -> bool

@@ -1,6 +1,6 @@
 -- Nothing, one signal, and some signals behind others. Assumes nothing.
 use mathlib.Core.Path.{◌≡◌, refl, ap, sym, ◌∙◌}
-use mathlib.Core.Bool.{Bool, true, false}
+use mathlib.Core.Bool.{Bool, true, false, ◌&&◌}
 use mathlib.Core.List.{List, [], ◌∷◌, ◌++◌, append-nil}
 use Prim.Native.Nat.{ℕ, ◌+◌, ◌≤◌}
 use native.Mathlib.Nat.{add-zero, add_assoc}
@@ -51,9 +51,13 @@ pub one_in : (w : ℕ) → (w ≡ 0 → ⊥) → signal_in w ≡ w ∷ []
 one_in w f = rw (ne_eqb w 0 f)
 
 -- nothing is put
-pub types_none : (t : Typed) (room : List ℕ) → Types [] t room t room
-types_none t room =
-    (sym (rw (printed_walk.nil t.case, printed_walk.ends_nil t.case, add-zero t.to)), rw (printed_walk.nil t.case))
+pub types_none : (t : Typed) (write : Bool) (room : List ℕ) → Types [] t write room t room
+types_none t write room =
+    (sym (rw (printed_walk.nil t.case, printed_walk.ends_nil t.case, add-zero t.to)), rw (printed_walk.nil t.case) (by write))
+  where
+    by : (b : Bool) → room ≡ (if b then sets room t.to [] else room)
+    by true = refl
+    by false = refl
 
 -- one signal
 one_prints : (c : Case) (w : ℕ) → printed c (w ∷ []) ≡ bytes_of c w
@@ -62,15 +66,34 @@ one_prints c w = printed_walk.cons c w [] ∙ rw (printed_walk.nil (case_at c w)
 one_ends : (c : Case) (w : ℕ) → ends_printed c (w ∷ []) ≡ case_at c w
 one_ends c w = printed_walk.ends_cons c w [] ∙ printed_walk.ends_nil (case_at c w)
 
-module _ (t : Typed) (w : ℕ) (room : List ℕ) where
+module _ (t : Typed) (w : ℕ) (write : Bool) (room : List ℕ) where
   -- without a byte
-  pub types_silent : bytes_of t.case w ≡ [] → Types (w ∷ []) t room (record { to = t.to; case = case_at t.case w }) room
-  types_silent e = (rw (one_prints t.case w, one_ends t.case w, e, add-zero t.to), rw (one_prints t.case w, e))
+  pub types_silent : bytes_of t.case w ≡ [] → Types (w ∷ []) t write room (record { to = t.to; case = case_at t.case w }) room
+  types_silent e =
+      (rw (one_prints t.case w, one_ends t.case w, e, add-zero t.to), rw (one_prints t.case w, e) (by write))
+    where
+      by : (b : Bool) → room ≡ (if b then sets room t.to [] else room)
+      by true = refl
+      by false = refl
 
   -- with one, which is stored or, where the room has no place for it, dropped
-  pub types_byte : {g : ℕ} {after : List ℕ} → bytes_of t.case w ≡ g ∷ [] → after ≡ set room t.to g →
-      Types (w ∷ []) t room (record { to = t.to + 1; case = case_at t.case w }) after
-  types_byte {g} e a = (rw (one_prints t.case w, one_ends t.case w, e), rw (one_prints t.case w, e) a)
+  pub types_byte : {g : ℕ} {after : List ℕ} → bytes_of t.case w ≡ g ∷ [] → after ≡ (if write then set room t.to g else room) →
+      Types (w ∷ []) t write room (record { to = t.to + 1; case = case_at t.case w }) after
+  types_byte {g} e a =
+      (rw (one_prints t.case w, one_ends t.case w, e), rw (one_prints t.case w, e) (a ∙ by write))
+    where
+      by : (b : Bool) → (if b then set room t.to g else room) ≡ (if b then sets room t.to (g ∷ []) else room)
+      by true = refl
+      by false = refl
+
+-- a byte is stored where it is to be written and the room reaches so far, and else dropped
+pub stored : (write fits : Bool) (room : List ℕ) (at g : ℕ) → (write && fits) ≡ true → set room at g ≡ (if write then set room at g else room)
+stored true fits room at g e = refl
+stored false fits room at g e = cc
+
+pub dropped : (write fits : Bool) (room : List ℕ) (at g : ℕ) → (write && fits) ≡ false → (fits ≡ false → set room at g ≡ room) → room ≡ (if write then set room at g else room)
+dropped true fits room at g e f = sym (f e)
+dropped false fits room at g e f = refl
 
 -- some signals behind others
 module _ (ss us : List ℕ) (t : Typed) where
@@ -83,10 +106,17 @@ module _ (ss us : List ℕ) (t : Typed) where
   both_typed =
       rw (both_print, ends_append printed ends_printed bytes_of case_at printed_walk t.case ss us, add_assoc t.to (length (printed t.case ss)) (length (printed (ends_printed t.case ss) us)))
 
-  pub types_then : (room mid after : List ℕ) (r s : Typed) → Types ss t room r mid → Types us r mid s after → Types (ss ++ us) t room s after
-  types_then room mid after r s a b = (
+  pub types_then : (write : Bool) (room mid after : List ℕ) (r s : Typed) → Types ss t write room r mid → Types us r write mid s after →
+      Types (ss ++ us) t write room s after
+  types_then write room mid after r s a b = (
     b.0 ∙ ap (λ (u : Typed). typed_on u us) a.0 ∙ both_typed,
-    rw (a.0, a.1) at b.1
-        ∙ sets_append room t.to (printed t.case ss) (printed (ends_printed t.case ss) us)
-        ∙ ap (λ (l : List ℕ). sets room t.to l) (sym (all_append printed ends_printed bytes_of case_at printed_walk t.case ss us)),
+    rw (a.0, a.1) at b.1 ∙ by write,
   )
+    where
+      by : (v : Bool) →
+          (if v then sets (if v then sets room t.to (printed t.case ss) else room) (t.to + length (printed t.case ss)) (printed (ends_printed t.case ss) us) else (if v then sets room t.to (printed t.case ss) else room))
+          ≡ (if v then sets room t.to (printed t.case (ss ++ us)) else room)
+      by true =
+          sets_append room t.to (printed t.case ss) (printed (ends_printed t.case ss) us)
+          ∙ ap (λ (l : List ℕ). sets room t.to l) (sym (all_append printed ends_printed bytes_of case_at printed_walk t.case ss us))
+      by false = refl

@@ -1,5 +1,5 @@
 -- Printed signals, block by block: what is put behind what a station has printed so far. Assumes nothing.
-use Rattle.std.specs.Prelude.{◌≡◌, true, List, [], ◌∷◌, ℕ, ◌+◌, length}
+use Rattle.std.specs.Prelude.{◌≡◌, Bool, true, List, [], ◌∷◌, ℕ, ◌+◌, length, if◌then◌else◌}
 use Rattle.std.proofs.lemmas.List.Edits.{sets}
 use Rattle.text.specs.Printing.{may_print, printed, ends_printed}
 use Rattle.mode_a.specs.declared.Words.{Words}
@@ -20,10 +20,10 @@ MayType w = (w ≡ 0 → ⊥) → may_print w ≡ true
 abbrev pub MayTypeAll : Words → Type 0
 MayTypeAll w = MayType w.0 × MayType w.1 × MayType w.2
 
--- the signals are put: so many bytes more, and the case that they end in; the bytes stand in the room behind those before them, as far as
--- it reaches
+-- the signals are put: so many bytes more, and the case that they end in; where they are to be written the bytes stand in the room behind those
+-- before them, as far as it reaches, and else the room is as it was
 abbrev pub typed_on : Typed → List ℕ → Typed
 typed_on t ss = record { to = t.to + length (printed t.case ss); case = ends_printed t.case ss }
 
-abbrev pub Types : List ℕ → Typed → List ℕ → Typed → List ℕ → Type 0
-Types ss t room r after = (r ≡ typed_on t ss) × (after ≡ sets room t.to (printed t.case ss))
+abbrev pub Types : List ℕ → Typed → Bool → List ℕ → Typed → List ℕ → Type 0
+Types ss t write room r after = (r ≡ typed_on t ss) × (after ≡ (if write then sets room t.to (printed t.case ss) else room))

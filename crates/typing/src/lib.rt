@@ -1,5 +1,5 @@
 // A station's printed signals put into its room block by block, with the case carried from one block to the next (02, T-07; 01, Text). All
-// bytes are counted; those that find no room are dropped, so an empty room makes a count alone.
+// bytes are counted; where they are to be written, those that find no room are dropped.
 #![tactic(auto)]
 
 ghost use Rattle.std.specs.Prelude.{◌≡◌, ◌+◌, ◌<◌, ◌^◌};
@@ -28,9 +28,9 @@ fn case_after(case: Case, word: u8) -> Case
 }
 
 // Puts one signal, or nothing where the word is 0.
-fn put_word(word: u8, typed: Typed, room: &mut [u8]) -> Typed
+fn put_word(word: u8, typed: Typed, room: &mut [u8], write: bool) -> Typed
     requires { MayType word × (typed.to + 1 < 2 ^ 64) }
-    ensures { Types (signal_in word) typed room.old result room.new }
+    ensures { Types (signal_in word) typed write room.old result room.new }
 {
     if word == 0 {
         return typed;
@@ -40,7 +40,8 @@ fn put_word(word: u8, typed: Typed, room: &mut [u8]) -> Typed
     if byte == 0 {
         return Typed { case, ..typed };
     }
-    if typed.to < room.len() {
+    let fits = typed.to < room.len();
+    if write & fits {
         room[typed.to] = byte;
     }
     Typed {
@@ -49,12 +50,12 @@ fn put_word(word: u8, typed: Typed, room: &mut [u8]) -> Typed
     }
 }
 
-// Puts the signals that a step has printed, which have 0 behind them.
-pub fn put(words: Words, typed: Typed, room: &mut [u8]) -> Typed
+// Puts the signals that a step has printed, which have 0 behind them. Where `write` is false they are counted, and the room stays as it is.
+pub fn put(words: Words, typed: Typed, room: &mut [u8], write: bool) -> Typed
     requires { MayTypeAll words × (typed.to + 3 < 2 ^ 64) }
-    ensures { Types (signals_in words) typed room.old result room.new }
+    ensures { Types (signals_in words) typed write room.old result room.new }
 {
-    let one = put_word(words.0, typed, room);
-    let two = put_word(words.1, one, room);
-    put_word(words.2, two, room)
+    let one = put_word(words.0, typed, room, write);
+    let two = put_word(words.1, one, room, write);
+    put_word(words.2, two, room, write)
 }

@@ -1,5 +1,6 @@
 -- An entry is told: what it prints is put behind the text of the station that prints it, and the other's stays. Assumes nothing.
 use mathlib.Core.Path.{◌≡◌, ap, ◌∙◌}
+use mathlib.Core.Bool.{Bool}
 use mathlib.Core.List.{List, [], ◌++◌}
 use Prim.Native.Nat.{ℕ, ◌+◌, ◌<◌, ◌^◌}
 use Rattle.mode_a.specs.declared.Role.{Role}
@@ -41,29 +42,29 @@ walk_is : (p : Passage) (x : State) (t u : Typed) → x ≡ state_of p → t ≡
     ◌≡◌ {A = Walk} (record { state = x; master = t; slave = u }) (walk_of p)
 walk_is p x t u a b c = rw (a, b, c)
 
-module _ (w : Walk) (e : Entry) (m s : List ℕ) (g : Gone) (goes : Goes w.state (λ p. tells p e) g) where
-  pub told_by_master : g.by ≡ Master → (t : Typed) (after : List ℕ) → Types (signals_in g.printed) w.master m t after →
-      Tells w e m s (record { state = g.state; master = t; slave = w.slave }) after s
+module _ (w : Walk) (e : Entry) (write : Bool) (m s : List ℕ) (g : Gone) (goes : Goes w.state (λ p. tells p e) g) where
+  pub told_by_master : g.by ≡ Master → (t : Typed) (after : List ℕ) → Types (signals_in g.printed) w.master write m t after →
+      Tells w e write m s (record { state = g.state; master = t; slave = w.slave }) after s
   told_by_master by t after typed p m₀ s₀ stood =
       let q = tells p e in
       let go = goes p (ap (λ (v : Walk). v.state) stood.stands) in
-      let put = put_on p q Master (signals_in g.printed) (prints_by_lem p q g go Master by) m₀ m after t stood.master_room (rw (ap (λ (v : Walk). v.master) stood.stands) at typed) in
+      let put = put_on p q Master (signals_in g.printed) (prints_by_lem p q g go Master by) write m₀ m after t stood.master_room (rw (ap (λ (v : Walk). v.master) stood.stands) at typed) in
       let none : signals_of q Slave ≡ signals_of p Slave ++ [] = rw by at (go.prints Slave) in
       record {
         stands = walk_is q g.state t w.slave go.state_is put.0 (ap (λ (v : Walk). v.slave) stood.stands ∙ typed_same p q Slave none);
         master_room = put.1;
-        slave_room = room_same p q Slave none s₀ s stood.slave_room;
+        slave_room = room_same p q Slave none write s₀ s stood.slave_room;
       }
 
-  pub told_by_slave : g.by ≡ Slave → (t : Typed) (after : List ℕ) → Types (signals_in g.printed) w.slave s t after →
-      Tells w e m s (record { state = g.state; master = w.master; slave = t }) m after
+  pub told_by_slave : g.by ≡ Slave → (t : Typed) (after : List ℕ) → Types (signals_in g.printed) w.slave write s t after →
+      Tells w e write m s (record { state = g.state; master = w.master; slave = t }) m after
   told_by_slave by t after typed p m₀ s₀ stood =
       let q = tells p e in
       let go = goes p (ap (λ (v : Walk). v.state) stood.stands) in
-      let put = put_on p q Slave (signals_in g.printed) (prints_by_lem p q g go Slave by) s₀ s after t stood.slave_room (rw (ap (λ (v : Walk). v.slave) stood.stands) at typed) in
+      let put = put_on p q Slave (signals_in g.printed) (prints_by_lem p q g go Slave by) write s₀ s after t stood.slave_room (rw (ap (λ (v : Walk). v.slave) stood.stands) at typed) in
       let none : signals_of q Master ≡ signals_of p Master ++ [] = rw by at (go.prints Master) in
       record {
         stands = walk_is q g.state w.master t go.state_is (ap (λ (v : Walk). v.master) stood.stands ∙ typed_same p q Master none) put.0;
-        master_room = room_same p q Master none m₀ m stood.master_room;
+        master_room = room_same p q Master none write m₀ m stood.master_room;
         slave_room = put.1;
       }

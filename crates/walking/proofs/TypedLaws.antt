@@ -52,15 +52,16 @@ module _ (p q : Passage) (r : Role) (ws : List ℕ) (e : signals_of q r ≡ sign
       rw (more_printed, ap (λ (l : List ℕ). ends_printed Letters l) e ∙ ends_append printed ends_printed bytes_of case_at printed_walk Letters (signals_of p r) ws)
 
   -- put behind the text before them, the signals give the text after them
-  pub put_on : (room₀ room after : List ℕ) (t : Typed) → room ≡ wrote_in (text_of p r) room₀ → Types ws (typed_of p r) room t after →
-      (t ≡ typed_of q r) × (after ≡ wrote_in (text_of q r) room₀)
-  put_on room₀ room after t a b = (
+  pub put_on : (write : Bool) (room₀ room after : List ℕ) (t : Typed) → room ≡ wrote_in write (text_of p r) room₀ → Types ws (typed_of p r) write room t after →
+      (t ≡ typed_of q r) × (after ≡ wrote_in write (text_of q r) room₀)
+  put_on true room₀ room after t a b = (
     b.0 ∙ typed_more,
     rw a at b.1
         ∙ ap (λ (n : ℕ). sets (sets room₀ 0 (text_of p r)) n (printed (ends_printed Letters (signals_of p r)) ws)) (sym (zero-add (length (text_of p r))))
         ∙ sets_append room₀ 0 (text_of p r) (printed (ends_printed Letters (signals_of p r)) ws)
         ∙ ap (λ (l : List ℕ). sets room₀ 0 l) (sym (text_more p q r ws e)),
   )
+  put_on false room₀ room after t a b = (b.0 ∙ typed_more, b.1 ∙ a)
 
 -- where nothing is put the text and the room stay
 module _ (p q : Passage) (r : Role) (e : signals_of q r ≡ signals_of p r ++ []) where
@@ -70,5 +71,5 @@ module _ (p q : Passage) (r : Role) (e : signals_of q r ≡ signals_of p r ++ []
   pub typed_same : typed_of p r ≡ typed_of q r
   typed_same = rw same
 
-  pub room_same : (room₀ room : List ℕ) → room ≡ wrote_in (text_of p r) room₀ → room ≡ wrote_in (text_of q r) room₀
-  room_same room₀ room a = a ∙ rw same
+  pub room_same : (write : Bool) (room₀ room : List ℕ) → room ≡ wrote_in write (text_of p r) room₀ → room ≡ wrote_in write (text_of q r) room₀
+  room_same write room₀ room a = a ∙ rw same

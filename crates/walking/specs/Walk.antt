@@ -1,5 +1,5 @@
 -- Where a walk over a record stands, beside the definition of a passage, and what it answers. Assumes nothing.
-use Rattle.std.specs.Prelude.{◌≡◌, List, [], ◌∷◌, ℕ, ◌+◌, ◌<◌, ◌^◌, eqb, length, drop, if◌then◌else◌, Option, Some, None, Result, Ok, Err}
+use Rattle.std.specs.Prelude.{◌≡◌, Bool, List, [], ◌∷◌, ℕ, ◌+◌, ◌<◌, ◌^◌, eqb, length, drop, if◌then◌else◌, Option, Some, None, Result, Ok, Err}
 use Rattle.std.proofs.lemmas.List.Edits.{sets}
 use Rattle.signals.specs.declared.Case.TheVariants.{Letters}
 use Rattle.signals.specs.Numbers.{Answer, answered, refused}
@@ -23,9 +23,9 @@ typed_of p r = record { to = length (text_of p r); case = ends_printed Letters (
 abbrev pub walk_of : Passage → Walk
 walk_of p = record { state = state_of p; master = typed_of p Master; slave = typed_of p Slave }
 
--- a room with the text in it, as far as it reaches
-abbrev pub wrote_in : List ℕ → List ℕ → List ℕ
-wrote_in text room = sets room 0 text
+-- a room as it was lent, or with the text in it, as far as it reaches
+abbrev pub wrote_in : Bool → List ℕ → List ℕ → List ℕ
+wrote_in write text room = if write then sets room 0 text else room
 
 -- An entry may be told from the walk: no count is then too large.
 pub record MayTell (w : Walk) : Type 0 where
@@ -34,13 +34,13 @@ pub record MayTell (w : Walk) : Type 0 where
   pub countable : (r : Role) → length (text_of from r) + 3 < 2 ^ 64
 
 -- An entry is told.
-pub record Told (p : Passage) (m₀ s₀ : List ℕ) (w : Walk) (m s : List ℕ) : Type 0 where
+pub record Told (p : Passage) (write : Bool) (m₀ s₀ : List ℕ) (w : Walk) (m s : List ℕ) : Type 0 where
   pub stands : w ≡ walk_of p
-  pub master_room : m ≡ wrote_in (text_of p Master) m₀
-  pub slave_room : s ≡ wrote_in (text_of p Slave) s₀
+  pub master_room : m ≡ wrote_in write (text_of p Master) m₀
+  pub slave_room : s ≡ wrote_in write (text_of p Slave) s₀
 
-abbrev pub Tells : Walk → Entry → List ℕ → List ℕ → Walk → List ℕ → List ℕ → Type 0
-Tells w e m s r m' s' = (p : Passage) (m₀ s₀ : List ℕ) → Told p m₀ s₀ w m s → Told (tells p e) m₀ s₀ r m' s'
+abbrev pub Tells : Walk → Entry → Bool → List ℕ → List ℕ → Walk → List ℕ → List ℕ → Type 0
+Tells w e write m s r m' s' = (p : Passage) (m₀ s₀ : List ℕ) → Told p write m₀ s₀ w m s → Told (tells p e) write m₀ s₀ r m' s'
 
 abbrev pub said_of : Outcome → Answer Counts
 said_of (told p) = answered (record { master = length (text_of p Master); slave = length (text_of p Slave) })
@@ -79,12 +79,13 @@ LooksAt bytes at p (Err x) next = Stops bytes at p (said_passed (Err x))
 abbrev pub Looks : List ℕ → ℕ → Standing → Result (Option Entry) PassError → List ℕ → ℕ → Type 0
 Looks bytes at s r bytes' next = (bytes' ≡ bytes) × ((p : Passage) → s ≡ p.standing → LooksAt bytes at p r next)
 
--- The whole walk: what the record leads to, by its number; and the rooms, with the texts up to the first entry that has a fault.
+-- The whole walk: what the record leads to, by its number; and the rooms, as they were lent where nothing is to be written, and else with the
+-- texts up to the first entry that has a fault.
 unfoldable pub passage_from : List ℕ → ℕ → Passage
 passage_from bytes at = passage_at bytes at begins
 
-abbrev pub Walks : List ℕ → ℕ → List ℕ → List ℕ → Passed → List ℕ → List ℕ → Type 0
-Walks bytes from m s r m' s' =
+abbrev pub Walks : Bool → List ℕ → ℕ → List ℕ → List ℕ → Passed → List ℕ → List ℕ → Type 0
+Walks write bytes from m s r m' s' =
     (said_passed r ≡ said_of (outcome_from bytes from))
-    × (m' ≡ wrote_in (text_of (passage_from bytes from) Master) m)
-    × (s' ≡ wrote_in (text_of (passage_from bytes from) Slave) s)
+    × (m' ≡ wrote_in write (text_of (passage_from bytes from) Master) m)
+    × (s' ≡ wrote_in write (text_of (passage_from bytes from) Slave) s)

@@ -1,5 +1,5 @@
-// The walk over a record (02, T-07): two fresh stations are run over its entries, one by one, and what each prints is written into its room
-// as far as that reaches. Rooms of no bytes make a judge of it, which only counts. The call is `passing::passage`.
+// The walk over a record (02, T-07): two fresh stations are run over its entries, one by one, and what each prints is counted, or written
+// into its room as far as that reaches. The call is `passing::passage`.
 #![tactic(auto)]
 
 ghost use Rattle.std.specs.Prelude.{◌≡◌};
@@ -38,9 +38,9 @@ fn begin() -> Walk
 }
 
 // Tells an entry without a fault.
-fn tell(walk: Walk, entry: Entry, master: &mut [u8], slave: &mut [u8]) -> Walk
+fn tell(walk: Walk, entry: Entry, master: &mut [u8], slave: &mut [u8], write: bool) -> Walk
     requires { MayTell walk }
-    ensures { Tells walk entry master.old slave.old result master.new slave.new }
+    ensures { Tells walk entry write master.old slave.old result master.new slave.new }
 {
     let gone = replay::goes(walk.state, entry);
     let after = Walk {
@@ -49,11 +49,11 @@ fn tell(walk: Walk, entry: Entry, master: &mut [u8], slave: &mut [u8]) -> Walk
     };
     match gone.by {
         Role::Master => Walk {
-            master: typing::put(gone.printed, walk.master, master),
+            master: typing::put(gone.printed, walk.master, master, write),
             ..after
         },
         Role::Slave => Walk {
-            slave: typing::put(gone.printed, walk.slave, slave),
+            slave: typing::put(gone.printed, walk.slave, slave, write),
             ..after
         },
     }
@@ -82,16 +82,22 @@ fn look_at(reader: &mut Reader<'_>, standing: Standing) -> Result<Option<Entry>,
     Ok(Some(entry))
 }
 
-// Runs two fresh stations over the entries from this place of a record on, up to the first that has a fault.
+// Runs two fresh stations over the entries from this place of a record on, up to the first that has a fault. Where `write` is false the record
+// is judged, and the rooms stay as they are, whatever is answered; where it is true each room has the text so far, as far as it reaches.
 // KEPT: the two rooms are two parameters, as makers lend them to `passing::passage`: a struct of both would be made there for each of the two
 // walks and be taken apart in `tell`. The loop counts no index, so it stays `while let` with `?`.
-pub fn walked(from: Reader<'_>, master: &mut [u8], slave: &mut [u8]) -> Result<Printed, PassError>
-    ensures { Walks from.entry.bytes.now from.entry.at master.old slave.old result master.new slave.new }
+pub fn walked(
+    from: Reader<'_>,
+    master: &mut [u8],
+    slave: &mut [u8],
+    write: bool,
+) -> Result<Printed, PassError>
+    ensures { Walks write from.entry.bytes.now from.entry.at master.old slave.old result master.new slave.new }
 {
     let mut reader = from;
     let mut walk = begin();
     while let Some(entry) = look_at(&mut reader, walk.state.standing)? {
-        walk = tell(walk, entry, master, slave);
+        walk = tell(walk, entry, master, slave, write);
     }
     Ok(Printed {
         master: walk.master.to,

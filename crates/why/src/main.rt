@@ -1,11 +1,11 @@
 // The reason for the answer of one step a record, of a station that is written out in the 17 bytes of the base (docs/FORMATS.md).
 #![tactic(auto)]
 
-use filters::Stream;
-use numbers::Line;
+use filters::Streams;
+use numbers::Room;
 use std::process::ExitCode;
 
-fn answer(stream: &mut Stream, record: &[u8; 84]) {
+fn answer(stream: &mut Streams, record: &[u8; 84]) {
     let why = help_desk::why(
         written::station_of(record),
         written::burst_of(record),
@@ -13,7 +13,7 @@ fn answer(stream: &mut Stream, record: &[u8; 84]) {
     );
     // no line comes to be full
     let mut room = [0u8; 32];
-    let mut line = Line::new(&mut room);
+    let mut line = Room::new(&mut room);
     written::put_why(&mut line, why);
     stream.put_line(line);
 }
@@ -24,7 +24,7 @@ fn run(rt: HostRuntime) -> Result<(), ExitCode> {
     filters::no_words(rt, b"why")?;
     let mut input = [0u8; 4096];
     let mut output = [0u8; 4096];
-    let mut stream = Stream::new(rt, &mut input, &mut output);
+    let mut stream = Streams::new(rt, &mut input, &mut output);
     let mut record = [0u8; 84];
     for _ in 0..u64::MAX {
         if stream.record(&mut record[..17]) != 17 {
@@ -38,5 +38,5 @@ fn run(rt: HostRuntime) -> Result<(), ExitCode> {
 }
 
 fn main(rt: HostRuntime) -> ExitCode {
-    filters::status(run(rt))
+    filters::status_after(run(rt))
 }

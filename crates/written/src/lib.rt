@@ -7,7 +7,7 @@ use mode_a::{
     Called, Called3, Code, Ended, Gathered, Held, Identified, Identity, Mark, Number, Offer, Owed,
     Own, Peer, Place, Refusal, Role, Stage, Station, Succession, Waiting, Words,
 };
-use numbers::Line;
+use numbers::Room;
 use reasons::{Reason, Star};
 
 fn role_of(byte: u8) -> Role {
@@ -174,7 +174,7 @@ pub fn burst_of(record: &[u8; 84]) -> Words {
     Words(record[10], record[11], record[12])
 }
 
-fn put_reason(line: &mut Line, reason: Reason) {
+fn put_reason(line: &mut Room, reason: Reason) {
     match reason {
         Reason::Silent => line.put_all(b"silent"),
         Reason::TimeOut => line.put_all(b"time-out"),
@@ -213,7 +213,7 @@ fn put_reason(line: &mut Line, reason: Reason) {
 }
 
 // The reason for an answer, or the refusal.
-pub fn put_why(line: &mut Line, why: Result<Reason, Refusal>) {
+pub fn put_why(line: &mut Room, why: Result<Reason, Refusal>) {
     match why {
         Ok(reason) => put_reason(line, reason),
         Err(refusal) => {
@@ -223,14 +223,14 @@ pub fn put_why(line: &mut Line, why: Result<Reason, Refusal>) {
     }
 }
 
-fn put_copies(line: &mut Line, name: &[u8], dx: u8, rx: u8) {
+fn put_copies(line: &mut Room, name: &[u8], dx: u8, rx: u8) {
     line.put_all(name);
     fields::put_number(line, dx);
     fields::put_number(line, rx);
 }
 
 // The reason for an error mark, and the two words.
-pub fn put_star(line: &mut Line, star: Option<Star>) {
+pub fn put_star(line: &mut Room, star: Option<Star>) {
     match star {
         None => line.put_all(b"none"),
         Some(Star::BothBad(dx, rx)) => put_copies(line, b"bad", dx, rx),

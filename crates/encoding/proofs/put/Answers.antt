@@ -10,6 +10,6 @@ returns-clause-wrote c =
     let a = c.args in
     let to = c.past-to in
     elim c.if-ne.branch [
-      | then-ne w ↦ (let d : (to.result.ends ≡ a.from.ends → ⊥) = search (rules, tests) in rw (w.room-is, w.shift.ensures) (put_two a.byte a.row c.requires.row a.from.ends to.result.ends to.ensures.case_value a.room.now a.from.count to.result.count to.ensures.count_value d))
+      | then-ne w ↦ (let d : (to.result.ends ≡ a.from.ends → ⊥) = search (rules, tests) in rw (w.room-is, w.shift_to.ensures) (put_two a.byte a.row c.requires.row a.from.ends to.result.ends to.ensures.case_value a.room.now a.from.count to.result.count to.ensures.count_value d))
       | else-ne w ↦ (let d : to.result.ends ≡ a.from.ends = search (rules, tests) in rw w.room-is (put_one a.byte a.row c.requires.row a.from.ends to.result.ends to.ensures.case_value a.room.now a.from.count to.result.count to.ensures.count_value d))
     ]

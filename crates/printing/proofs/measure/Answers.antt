@@ -15,5 +15,5 @@ returns-then-places-need-clause-err c = λ case room e.
     rw printing_judged
     (no_room 8192 7 3 (length words) (first_not may_print words) room (record { bytes = printed case words; ends = ends_printed case words }) c.args.judged.short c.args.judged.may n.result (n.ensures.1 c.args.judged.may case) (omega (arith, c.if-places-need.true)))
 
-pub returns-else-places-judged-clause-ok : goal.returns-else-places-judged-clause-ok
-returns-else-places-judged-clause-ok c = λ ok case. omega (arith, at_most case c.args.judged.words.now)
+pub returns-else-short-clause-ok : goal.returns-else-short-clause-ok
+returns-else-short-clause-ok c = λ ok case. omega (arith, at_most case c.args.judged.words.now)

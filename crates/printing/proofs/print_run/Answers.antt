@@ -1,11 +1,10 @@
 -- `printing::print_run` meets its contract: the words passed are printed, all in the case of the run. Assumes nothing.
-use mathlib.Core.Path.{ap, sym, ◌∙◌}
-use Rattle.signals.specs.Cases.{shift_to}
+use mathlib.Core.Path.{sym, ◌∙◌}
 use Rattle.text.specs.Printing.{may_print}
 use Rattle.judging.proofs.SizeLaws.{passes}
 use Rattle.printing.proofs.RunLaws.{run_silent, run_room, run_prints}
 use Rattle.printing.proofs.print_run.Goals as goal
-use Rattle.printing.proofs.print_run.Goals.{then-byte-eq0+else-word-shift, else-byte-eq0}
+use Rattle.printing.proofs.print_run.Goals.{then-byte-eq0+else-word-leaving, else-byte-eq0}
 
 pub glyph-byte-requires : goal.glyph-byte-requires
 glyph-byte-requires c =
@@ -21,6 +20,6 @@ loop-i-preserved c =
     let h = c.loop-i-test.true in
     let is = c.glyph-byte.ensures in
     elim c.if-byte-eq0.branch [
-      | then-byte-eq0+else-word-shift w ↦ rw (w.room-is, w.next-is) (run_silent l.invariant h is w.if-byte-eq0.true (λ e. w.if-word-shift.false (e ∙ ap shift_to (sym w.other.ensures) ∙ sym w.shift.ensures)))
+      | then-byte-eq0+else-word-leaving w ↦ rw (w.room-is, w.next-is) (run_silent l.invariant h is w.if-byte-eq0.true (λ e. w.if-word-leaving.false (e ∙ sym w.leaving.ensures)))
       | else-byte-eq0 w ↦ rw (w.room-is, w.next-is) (run_prints l.invariant h is w.if-byte-eq0.false)
     ]

@@ -3,7 +3,7 @@ use Rattle.station.proofs.PartLaws.{done_by_row, refused_lem, step_done}
 use Rattle.station.proofs.step.Goals as goal
 
 pub returns-in-Err : goal.returns-in-Err
-returns-in-Err c = refused_lem c.args.s c.args.burst c.args.offer _ c.in-Err.ensures
+returns-in-Err c = rw (c.refused.ensures.station, c.refused.ensures.reason) (refused_lem c.args.s c.args.burst c.args.offer _ c.in-Err.ensures)
 
 pub returns : goal.returns
 returns c =

@@ -26,5 +26,5 @@ returns c =
     let p = c.put_word-two in
     let q = c.put_word in
     rw (one_by_one w)
-    (types_then (signal_in w.0) (signal_in w.1 ++ signal_in w.2) t c.args.room.now o.new.room q.new.room o.result q.result o.ensures
-    (types_then (signal_in w.1) (signal_in w.2) o.result o.new.room p.new.room q.new.room p.result q.result p.ensures q.ensures))
+    (types_then (signal_in w.0) (signal_in w.1 ++ signal_in w.2) t c.args.write c.args.room.now o.new.room q.new.room o.result q.result o.ensures
+    (types_then (signal_in w.1) (signal_in w.2) o.result c.args.write o.new.room p.new.room q.new.room p.result q.result p.ensures q.ensures))

@@ -17,10 +17,10 @@ pub returns-in-Master : goal.returns-in-Master
 returns-in-Master c =
     let g = c.goes-gone in
     let t = c.put in
-    told_by_master c.args.walk c.args.entry c.args.master.now c.args.slave.now g.result g.ensures c.in-Master.is t.result t.new.room t.ensures
+    told_by_master c.args.walk c.args.entry c.args.write c.args.master.now c.args.slave.now g.result g.ensures c.in-Master.is t.result t.new.room t.ensures
 
 pub returns-in-Slave : goal.returns-in-Slave
 returns-in-Slave c =
     let g = c.goes-gone in
     let t = c.put-in-Slave in
-    told_by_slave c.args.walk c.args.entry c.args.master.now c.args.slave.now g.result g.ensures c.in-Slave.is t.result t.new.room t.ensures
+    told_by_slave c.args.walk c.args.entry c.args.write c.args.master.now c.args.slave.now g.result g.ensures c.in-Slave.is t.result t.new.room t.ensures

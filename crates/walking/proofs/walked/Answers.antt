@@ -9,7 +9,7 @@ pub loop-entry-init : goal.loop-entry-init
 loop-entry-init c =
     record {
       same_record = refl;
-      walks = walking_begins c.args.from.bytes.now c.args.from.at c.args.master.now c.args.slave.now (omega arith) c.begin-walk.result c.begin-walk.ensures;
+      walks = walking_begins c.args.write c.args.from.bytes.now c.args.from.at c.args.master.now c.args.slave.now (omega arith) c.begin-walk.result c.begin-walk.ensures;
     }
 
 pub loop-entry-smaller : goal.loop-entry-smaller
@@ -18,8 +18,8 @@ loop-entry-smaller c =
     let f : c.look_at.result ≡ Ok (Some c.in-Some.entry) = rw c.in-Some.is at c.in_ok-entry.was in
     let k = rw (f, l.invariant.same_record) at c.look_at.ensures in
     let w = l.invariant.walks in
-    let here = k.1 w.here (standing_here c.args.from.bytes.now c.args.from.at c.args.master.now c.args.slave.now l.reader.at l.walk l.master l.slave w) in
-    rw (k.0, l.invariant.same_record) (walking_less c.args.from.bytes.now c.args.from.at c.args.master.now c.args.slave.now l.reader.at l.walk l.master l.slave w c.in-Some.entry c.look_at.new.reader.at here)
+    let here = k.1 w.here (standing_here c.args.write c.args.from.bytes.now c.args.from.at c.args.master.now c.args.slave.now l.reader.at l.walk l.master l.slave w) in
+    rw (k.0, l.invariant.same_record) (walking_less c.args.write c.args.from.bytes.now c.args.from.at c.args.master.now c.args.slave.now l.reader.at l.walk l.master l.slave w c.in-Some.entry c.look_at.new.reader.at here)
 
 pub loop-entry-preserved : goal.loop-entry-preserved
 loop-entry-preserved c =
@@ -28,11 +28,11 @@ loop-entry-preserved c =
     let f : c.look_at.result ≡ Ok (Some c.in-Some.entry) = rw c.in-Some.is at c.in_ok-entry.was in
     let k = rw (f, l.invariant.same_record) at c.look_at.ensures in
     let w = l.invariant.walks in
-    let here = k.1 w.here (standing_here c.args.from.bytes.now c.args.from.at c.args.master.now c.args.slave.now l.reader.at l.walk l.master l.slave w) in
+    let here = k.1 w.here (standing_here c.args.write c.args.from.bytes.now c.args.from.at c.args.master.now c.args.slave.now l.reader.at l.walk l.master l.slave w) in
     record {
       same_record = k.0;
       walks =
-          walking_tells c.args.from.bytes.now c.args.from.at c.args.master.now c.args.slave.now l.reader.at l.walk l.master l.slave w c.in-Some.entry c.look_at.new.reader.at here
+          walking_tells c.args.write c.args.from.bytes.now c.args.from.at c.args.master.now c.args.slave.now l.reader.at l.walk l.master l.slave w c.in-Some.entry c.look_at.new.reader.at here
           (omega arith) t.result t.new.master t.new.slave t.ensures;
     }
 
@@ -42,5 +42,5 @@ returns c =
     let w = l.invariant.walks in
     let f : c.look_at.result ≡ Ok None = rw c.in_default.is at c.in_ok-entry.was in
     let k = rw (f, l.invariant.same_record) at c.look_at.ensures in
-    walking_ends c.args.from.bytes.now c.args.from.at c.args.master.now c.args.slave.now l.reader.at l.walk l.master l.slave w
-    (k.1 w.here (standing_here c.args.from.bytes.now c.args.from.at c.args.master.now c.args.slave.now l.reader.at l.walk l.master l.slave w))
+    walking_ends c.args.write c.args.from.bytes.now c.args.from.at c.args.master.now c.args.slave.now l.reader.at l.walk l.master l.slave w
+    (k.1 w.here (standing_here c.args.write c.args.from.bytes.now c.args.from.at c.args.master.now c.args.slave.now l.reader.at l.walk l.master l.slave w))

@@ -8,7 +8,7 @@ use Rattle.walking.proofs.walked.Given as goal
 abbrev pub invariant-loop-entry : goal.invariant-loop-entry
 invariant-loop-entry l = record {
   same_record : l.reader.bytes.now ≡ l.fn.from.bytes.now;
-  walks : Walking l.fn.from.bytes.now l.fn.from.at l.initial.master l.initial.slave l.reader.at l.walk l.master l.slave;
+  walks : Walking l.fn.write l.fn.from.bytes.now l.fn.from.at l.initial.master l.initial.slave l.reader.at l.walk l.master l.slave;
 }
 
 abbrev pub decreases-loop-entry : goal.decreases-loop-entry
