@@ -35,12 +35,13 @@ pub struct Stream {
     pub column: usize,
 }
 
-// A program's two streams, which go through two rooms that it lends.
+// A program's two streams, which go through two rooms that it lends. How they stand may be set by another crate too, as far as the two
+// facts below allow: the next byte's place is not past the end, nor the end past the input room.
 #[derive(Drop)]
 pub struct Streams<'a> {
     input: &'a mut [u8],
     output: Room<'a>,
-    stands: Stream,
+    pub stands: Stream,
     ghost next_within: { stands.next ≤ stands.end },
     ghost end_within: { stands.end ≤ length input.now },
 }
